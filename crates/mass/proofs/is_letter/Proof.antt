@@ -1,0 +1,13 @@
+-- `mass::is_letter` meets its contract: each test's value from its fact. Assumes nothing.
+use borrow.Author.Tests.{le-leb, lt-leb}
+use Rattle.mass.proofs.is_letter.Statement.{statement}
+use Rattle.mass.proofs.is_letter.Tie as tie
+
+returns : tie.Need-returns
+returns c = simp (le-leb 65 _ (c .if1 .taken))
+
+returns-2 : tie.Need-returns-2
+returns-2 c = simp (lt-leb 65 _ (c .if1 .left))
+
+pub is-letter-spec : {M : Type 1} → statement M
+is-letter-spec = tie.close (tie.spec returns returns-2)
