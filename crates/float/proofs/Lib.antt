@@ -1,0 +1,6 @@
+-- What the proofs of `float` share, and the laws that other crates cite.
+pub mod Digits
+pub mod Laws
+pub mod Nan
+pub mod Order
+pub mod Round
