@@ -1,0 +1,3 @@
+pub mod Feature
+pub mod Checks
+pub mod Status

@@ -1,0 +1,121 @@
+// Matrices that lie row by row in a slice, after sage's matrix.rs: the place of a cell, a row as a part, a checked read, two rows
+// exchanged, and the column cursor. A place is always worked out in 32 bits.
+ghost use mathlib.Core.Path.{_≡_};
+ghost use Prim.Native.Nat.{_+_, _*_, _^_, _≤_, _<_};
+ghost use lib.ListN.{length, replicate};
+ghost use Rattle.matrix.specs.Rows.{placeOf, rowAt, rowsOf, flat, swapped};
+ghost use Rattle.matrix.specs.Cells.{cellOf, stepOf, zero64};
+
+// A peptide's number, and a file's: a row and a column of the matrix of times.
+pub struct PeptideIx(pub u32);
+
+pub struct FileIx(pub u32);
+
+// The place of a peptide's cell for a file, in a matrix with a column for each file. For the crates above: within the limits of document 01
+// the place is below 2^24.
+pub fn place(row: PeptideIx, col: FileIx, files: u32) -> usize
+    requires { ⌜ row .0 * files + col .0 < 2 ^ 32 ⌝ }
+    ensures { λ r. ⌜ r ≡ placeOf files (row .0) (col .0) ⌝ }
+{
+    (row.0 * files + col.0) as usize
+}
+
+// A row as a part of the slice (Rust's row_slice). For the crates above, which know that the row is there.
+pub fn row_slice(cells: &[f64], row: u32, cols: u32) -> &[f64]
+    requires { ⌜ (row * cols < 2 ^ 32) × (row * cols + cols ≤ length (now cells)) ⌝ }
+    ensures { λ r. ⌜ now r ≡ rowAt cols row (now (cells .entry)) ⌝ }
+{
+    let start = (row * cols) as usize;
+    let end = start + cols as usize;
+    &cells[start..end]
+}
+
+// What a checked read finds.
+pub enum Cell {
+    Value(f64),
+    Outside,
+}
+
+// The cell in a row and a column of a matrix of rows × cols cells (Rust's Matrix::get), for any numbers: outside where the matrix has no such
+// row or column or the slice ends before it.
+pub fn get(cells: &[f64], rows: u32, cols: u32, row: u32, col: u32) -> Cell
+    ensures { λ r. ⌜ r ≡ cellOf rows cols row col (now (cells .entry)) ⌝ }
+{
+    if rows <= row {
+        return Cell::Outside;
+    }
+    if cols <= col {
+        return Cell::Outside;
+    }
+    if (0xffff_ffff - col) / cols < row {
+        return Cell::Outside;
+    }
+    let at = (row * cols + col) as usize;
+    if at < cells.len() {
+        Cell::Value(cells[at])
+    } else {
+        Cell::Outside
+    }
+}
+
+// A cursor that walks down a column (Rust's Iter over Col): the row that it reads next, and the column.
+pub struct Col {
+    pub row: u32,
+    pub col: u32,
+}
+
+// What a step of the cursor gives: the cell and the cursor one row further down, or the column's end.
+pub enum ColStep {
+    Value(f64, Col),
+    Done,
+}
+
+impl Col {
+    // The cursor at the top of a column.
+    pub fn new(col: u32) -> Self
+        ensures { λ r. ⌜ r ≡ record { row = 0; col = col } ⌝ }
+    {
+        Self { row: 0, col }
+    }
+
+    // The cell at the cursor, in a matrix of rows × cols cells.
+    pub fn next(self, cells: &[f64], rows: u32, cols: u32) -> ColStep
+        ensures { λ r. ⌜ r ≡ stepOf rows cols self (now (cells .entry)) ⌝ }
+    {
+        let row = self.row;
+        let col = self.col;
+        let found = get(cells, rows, cols, row, col);
+        match found {
+            Cell::Value(value) => ColStep::Value(value, Col { row: row + 1, col }),
+            Cell::Outside => ColStep::Done,
+        }
+    }
+}
+
+// Exchanges rows i and j of a matrix of rows × cols cells (gauss.rs's swap_rows). For the elimination, which knows that the rows are there.
+pub fn swap_rows(cells: &mut [f64], rows: u32, cols: u32, i: u32, j: u32)
+    requires { ⌜ (length (now cells) ≡ rows * cols) × (rows * cols < 2 ^ 32) × (i < rows) × (j < rows) ⌝ }
+    ensures { λ _. ⌜ now (cells .exit) ≡ flat (swapped i j (rowsOf cols rows (now (cells .entry)))) ⌝ }
+{
+    let a = (i * cols) as usize;
+    let b = (j * cols) as usize;
+    let n = cols as usize;
+    let mut k = 0usize;
+    while k < n {
+        let tmp = cells[a + k];
+        cells[a + k] = cells[b + k];
+        cells[b + k] = tmp;
+        k += 1;
+    }
+}
+
+// Sets every cell to +0.0.
+pub fn zeros(cells: &mut [f64])
+    ensures { λ _. ⌜ now (cells .exit) ≡ replicate (length (now (cells .entry))) zero64 ⌝ }
+{
+    let mut k = 0usize;
+    while k < cells.len() {
+        cells[k] = 0.0;
+        k += 1;
+    }
+}
