@@ -1,0 +1,68 @@
+// Functions of `float` under C names, for a test of the bits of a NaN in compiled code.
+ghost use mathlib.Core.Path.{_≡_};
+ghost use lib.Ieee.{binary32, binary64, ofBits};
+ghost use Rattle.float.specs.Convert.{narrowed};
+ghost use Rattle.float.specs.Value.{magnitude, minimum, clamped};
+
+#[no_mangle]
+pub extern "C" fn zk_canonical64(x: f64) -> f64
+    ensures { λ r. ⌜ r ≡ x ⌝ }
+{
+    float::canonical64(x)
+}
+
+#[no_mangle]
+pub extern "C" fn zk_canonical32(x: f32) -> f32
+    ensures { λ r. ⌜ r ≡ x ⌝ }
+{
+    float::canonical32(x)
+}
+
+#[no_mangle]
+pub extern "C" fn zk_narrow(x: f64) -> f32
+    ensures { λ r. ⌜ r ≡ narrowed x ⌝ }
+{
+    float::narrow(x)
+}
+
+#[no_mangle]
+pub extern "C" fn zk_widen(x: f32) -> f64
+    ensures { λ r. ⌜ r ≡ x ⌝ }
+{
+    float::widen(x)
+}
+
+#[no_mangle]
+pub extern "C" fn zk_abs32(x: f32) -> f32
+    ensures { λ r. ⌜ r ≡ magnitude x ⌝ }
+{
+    float::abs32(x)
+}
+
+#[no_mangle]
+pub extern "C" fn zk_min64(a: f64, b: f64) -> f64
+    ensures { λ r. ⌜ r ≡ minimum a b ⌝ }
+{
+    float::min64(a, b)
+}
+
+#[no_mangle]
+pub extern "C" fn zk_clamp64(x: f64, lo: f64, hi: f64) -> f64
+    ensures { λ r. ⌜ r ≡ clamped lo hi x ⌝ }
+{
+    float::clamp64(x, lo, hi)
+}
+
+#[no_mangle]
+pub extern "C" fn zk_from_bits64(b: u64) -> f64
+    ensures { λ r. ⌜ r ≡ ofBits binary64 b ⌝ }
+{
+    float::from_bits64(b)
+}
+
+#[no_mangle]
+pub extern "C" fn zk_from_bits32(b: u32) -> f32
+    ensures { λ r. ⌜ r ≡ ofBits binary32 b ⌝ }
+{
+    float::from_bits32(b)
+}
