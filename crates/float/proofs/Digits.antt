@@ -197,3 +197,6 @@ readHex-reads s v = go (leb 1 (length s)) (leb (length s) 16) (allHex s) (leb-tr
     go true true false a b c h = absurd (differ h)
     go true false w a b c h = absurd (differ h)
     go false u w a b c h = absurd (differ h)
+
+pub readHex-lt : (k : ℕ) (s : List ℕ) {v : ℕ} → length s ≡ k → readHex s ≡ Value v → v < 16 ^ k
+readHex-lt k s {v} e h = subst (λ (n : ℕ). v < 16 ^ n) e (readHex-reads s v h .below)

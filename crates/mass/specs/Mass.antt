@@ -1,6 +1,6 @@
 -- VALID_AA of sage's mass.rs and the column of a letter, as document 01 has them. Assumes nothing.
 use Prim.Native.Nat.{ℕ, zero, suc}
-use mathlib.Core.Bool.{Bool, true, false, cond, _&&_}
+use mathlib.Core.Bool.{Bool, cond, _&&_}
 use mathlib.Core.List.{List, [], _∷_}
 use lib.Dec.{eqb, leb}
 use Rattle.mass.specs.declared.Residue.{Residue}

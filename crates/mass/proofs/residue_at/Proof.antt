@@ -1,6 +1,5 @@
 -- `mass::residue_at` meets its contract: the constant is the list of the definition. Assumes nothing.
-use mathlib.Core.Path.{_≡_, sym}
-use native.Mathlib.Omega.{arith}
+use mathlib.Core.Path.{sym}
 use borrow.Author.Needs.{needs}
 use Rattle.mass.specs.Mass.{residueAt, validAa}
 use Rattle.mass.proofs.Laws.{residue-in, residue-past}
