@@ -6,7 +6,7 @@ use Prim.Native.Nat.{ℕ, zero, suc, _*_, _≤_, _<_}
 use native.Mathlib.Nat.{le-of-suc-le-suc, not-suc-le-zero}
 use native.Mathlib.Omega.{arith}
 use lib.Dec.{eqb, leb, ltb}
-use lib.ListN.{length, getD, drop}
+use lib.ListN.{length, getD, take, drop}
 use lib.Seq.{drop-cons}
 use borrow.Author.Tests.{ltb-true, leb-true, eqb-true}
 use Rattle.feature.specs.Checks.{every, allBelow, lengthsAgree, withinLimits, withinRowLimits, maxFiles, maxRows, maxPeptides, maxCells}
@@ -18,9 +18,9 @@ and-true false b e = (e, cc)
 
 module _ {A : Type 0} (p : A → Bool) where
   -- a loop's step: the element at i and the rest
-  pub every-drop : (i : ℕ) (xs : List A) (d : A) → i < length xs → every p (drop i xs) ≡ p (getD xs i d) && every p (drop (suc i) xs)
+  pub every-step : (i : ℕ) (xs : List A) (d : A) → i < length xs → every p (drop i xs) ≡ p (getD xs i d) && every p (drop (suc i) xs)
   unfolding every
-  every-drop i xs d h = rw (drop-cons xs i d h)
+  every-step i xs d h = rw (drop-cons xs i d h)
 
   -- the test passes at each place
   pub every-at : (xs : List A) (i : ℕ) (d : A) → every p xs ≡ true → i < length xs → p (getD xs i d) ≡ true
@@ -34,6 +34,19 @@ module _ {A : Type 0} (p : A → Bool) where
   unfolding every
   every-all [] d h = refl
   every-all (x ∷ xs) d h = rw (h 0 (omega arith)) (every-all xs d (λ i l. h (suc i) (omega arith)))
+
+  -- it passes at each element of a part
+  pub every-take : (k : ℕ) (xs : List A) → every p xs ≡ true → every p (take k xs) ≡ true
+  unfolding every
+  every-take zero xs e = refl
+  every-take (suc k) [] e = refl
+  every-take (suc k) (x ∷ xs) e = let s = and-true (p x) (every p xs) e in rw (s .0) (every-take k xs (s .1))
+
+  pub every-drop : (k : ℕ) (xs : List A) → every p xs ≡ true → every p (drop k xs) ≡ true
+  unfolding every
+  every-drop zero xs e = e
+  every-drop (suc k) [] e = refl
+  every-drop (suc k) (x ∷ xs) e = every-drop k xs (and-true (p x) (every p xs) e .1)
 
 -- a number of a list that is below n throughout
 pub below-at : (n : ℕ) (xs : List ℕ) (i : ℕ) → allBelow n xs ≡ true → i < length xs → getD xs i 0 < n

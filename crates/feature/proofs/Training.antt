@@ -18,10 +18,10 @@ module _ {A : Type 0} where
   kept-cons b marks x xs = refl
 
   -- a loop's step: the element at i, where its mark is true, and the rest
-  pub kept-drop : (i : ℕ) (marks : List Bool) (xs : List A) (d : A) → i < length marks → i < length xs
+  pub kept-step : (i : ℕ) (marks : List Bool) (xs : List A) (d : A) → i < length marks → i < length xs
       → kept (drop i marks) (drop i xs) ≡ cond (getD marks i false) (getD xs i d ∷ kept (drop (suc i) marks) (drop (suc i) xs)) (kept (drop (suc i) marks) (drop (suc i) xs))
   unfolding kept
-  kept-drop i marks xs d h l = rw (drop-cons marks i false h, drop-cons xs i d l)
+  kept-step i marks xs d h l = rw (drop-cons marks i false h, drop-cons xs i d l)
 
   -- no more are kept than there are
   pub length-kept : (marks : List Bool) (xs : List A) → length (kept marks xs) ≤ length xs

@@ -10,7 +10,7 @@ use lib.ListN.{length, drop, getD, drop-of-length-le}
 use borrow.Author.Needs.{needs}
 use borrow.Author.Tests.{lt-ltb, le-ltb}
 use Rattle.feature.specs.Checks.{every, allBelow}
-use Rattle.feature.proofs.Laws.{every-drop}
+use Rattle.feature.proofs.Laws.{every-step}
 use Rattle.feature.proofs.all_below.Statement.{statement}
 use Rattle.feature.proofs.all_below.Tie as tie
 
@@ -34,13 +34,14 @@ cast-x c = omega (arith, c .shared-slice-known .given (c .before .before .loop .
 
 -- what is left from i on, by the test at i
 left : (n i : ℕ) (xs : List ℕ) → i < length xs → allBelow n (drop i xs) ≡ ltb (getD xs i 0) n && allBelow n (drop (i + 1) xs)
-left n i xs h = every-drop (λ x. ltb x n) i xs 0 h ∙ ap (λ (k : ℕ). ltb (getD xs i 0) n && allBelow n (drop k xs)) (sym (add-one i))
+left n i xs h = every-step (λ x. ltb x n) i xs 0 h ∙ ap (λ (k : ℕ). ltb (getD xs i 0) n && allBelow n (drop k xs)) (sym (add-one i))
 
 returns : tie.Need-returns Inv-loop μ-loop
 returns c =
     let l = c .before .before .before in
     let p = l .before .args in
-    rw (le-ltb _ _ (c .if1 .taken)) at (sym (left (p .n) (l .loop .i) (p .xs .now) (search needs)) ∙ l .loop .inv .1)
+    let past : p .n ≤ getD (p .xs .now) (l .loop .i) 0 = omega (arith, c .if1 .taken) in
+    rw (le-ltb _ _ past) at (sym (left (p .n) (l .loop .i) (p .xs .now) (search needs)) ∙ l .loop .inv .1)
 
 add-i : tie.Need-add-i Inv-loop μ-loop
 add-i c = search needs
@@ -52,7 +53,8 @@ loop-again : tie.Need-loop-again Inv-loop μ-loop
 loop-again c =
     let l = c .before .before .before in
     let p = l .before .args in
-    (search needs, rw (lt-ltb _ _ (c .if1 .left)) at (sym (left (p .n) (l .loop .i) (p .xs .now) (search needs)) ∙ l .loop .inv .1))
+    let below : getD (p .xs .now) (l .loop .i) 0 < p .n = omega (arith, c .if1 .left) in
+    (search needs, rw (lt-ltb _ _ below) at (sym (left (p .n) (l .loop .i) (p .xs .now) (search needs)) ∙ l .loop .inv .1))
 
 returns-2 : tie.Need-returns-2 Inv-loop μ-loop
 unfolding every

@@ -1,0 +1,38 @@
+// Replays stored answers of the Rust's test of a training row: a label as the bits of an i32, and the pattern of q.
+use vectors::Next;
+use vectors::Record;
+
+fn low32(v: u64) -> u32 {
+    (v % 4294967296) as u32
+}
+
+// The i32 with these bits.
+fn signed(bits: u32) -> i32 {
+    if bits < 0x8000_0000 {
+        bits as i32
+    } else {
+        -1 - ((0xffff_ffff - bits) as i32)
+    }
+}
+
+fn answer(r: Record) -> u64 {
+    feature::trains(signed(low32(r.a)), float::from_bits32(low32(r.b))) as u64
+}
+
+// Answers one line, and says whether there was one.
+fn replay() -> bool {
+    let Next::Case(r) = vectors::read_record() else {
+        return false;
+    };
+    vectors::write_token(answer(r));
+    true
+}
+
+// A proved loop has to end, and nothing says that the input does: so the turns are counted down
+// from a number that no run uses up.
+fn main() {
+    let mut turns = u64::MAX;
+    while turns > 0 && replay() {
+        turns -= 1;
+    }
+}

@@ -1,0 +1,5 @@
+-- Texts of `key=value` lines: numbers as digits, lines, and readers. Definitions only.
+pub mod Decimal
+pub mod Reader
+pub mod Line
+pub mod Answer
