@@ -1,0 +1,19 @@
+//! Sage's alignment, models, regression and elimination, compiled from its own files.
+//!
+//! The build script lays the files out and checks them. The name `std` is ../shims/std here, so that
+//! sage's `HashMap` is ordered; `crate::database`, `crate::peptide` and `crate::scoring` are ours.
+
+pub mod database;
+pub mod peptide;
+pub mod scoring;
+
+#[allow(dead_code, clippy::all)]
+mod unchanged {
+    include!(concat!(env!("OUT_DIR"), "/modules.rs"));
+}
+pub use unchanged::{mass, ml, COMPILED, SOURCE};
+
+/// The ridges tried without success on this thread since the last call.
+pub fn take_failed_ridges() -> usize {
+    log::take_debugs()
+}

@@ -1,0 +1,173 @@
+//! Whole runs: the alignment, both fits on it, and each fitted model's predictions and errors.
+
+use crate::alignment::{align, read_rows, write_aligned, write_rows, Aligned, Columns, Row};
+use crate::solve::ridges;
+use crate::text::{bits64, Output, Tokens};
+use sage::database::IndexedDatabase;
+use sage::ml::{mobility_model, retention_model};
+use sage::peptide::Peptide;
+use sage::scoring::Feature;
+
+/// A run's input: the file count, the peptide table and the rows.
+pub struct Batch {
+    pub files: usize,
+    pub peptides: Vec<Peptide>,
+    pub rows: Vec<Row>,
+}
+
+/// A fit's answer.
+pub enum Fit {
+    Solved { ridge: f64, r2: f64, n: usize, beta: Vec<f64> },
+    NoTrainingRows,
+    NotSolved,
+}
+
+impl Fit {
+    /// From the model the Rust fitted, if it did, as (r2, beta), to `n` training rows.
+    fn of(model: Option<(f64, Vec<f64>)>, n: usize) -> Fit {
+        let failed = sage::take_failed_ridges();
+        match model {
+            Some((r2, beta)) => Fit::Solved { ridge: ridges()[failed], r2, n, beta },
+            None if n == 0 => Fit::NoTrainingRows,
+            None => Fit::NotSolved,
+        }
+    }
+}
+
+/// What a run gives; `aligned.features` hold the predictions and errors of the models that fit.
+pub struct Run {
+    pub aligned: Aligned,
+    pub retention: Fit,
+    pub mobility: Fit,
+}
+
+/// The log that the retention model takes of a mass, as its source writes it.
+pub fn log_mass(monoisotopic: f32) -> f64 {
+    (monoisotopic as f64).ln_1p()
+}
+
+/// Runs a batch.
+pub fn run(batch: &Batch) -> Run {
+    let db = IndexedDatabase { peptides: batch.peptides.clone() };
+    let mut aligned = align(batch.files, &batch.rows);
+    let features = &mut aligned.features;
+    let retention = fit_retention(&db, features);
+    let mobility = fit_mobility(&db, features);
+    let fitted = retention_model::predict(&db, features).is_some();
+    assert_eq!(fitted, matches!(retention, Fit::Solved { .. }));
+    let fitted = mobility_model::predict(&db, features).is_some();
+    assert_eq!(fitted, matches!(mobility, Fit::Solved { .. }));
+    Run { aligned, retention, mobility }
+}
+
+/// The rows that train, by the models' own test.
+fn training_rows(features: &[Feature]) -> usize {
+    features.iter().filter(|f| f.label == 1 && f.spectrum_q <= 0.01).count()
+}
+
+fn fit_retention(db: &IndexedDatabase, features: &[Feature]) -> Fit {
+    sage::take_failed_ridges();
+    let model = retention_model::RetentionModel::fit(db, features);
+    Fit::of(model.map(|m| (m.r2, m.probe_beta().to_vec())), training_rows(features))
+}
+
+fn fit_mobility(db: &IndexedDatabase, features: &[Feature]) -> Fit {
+    sage::take_failed_ridges();
+    let model = mobility_model::MobilityModel::fit(db, features);
+    Fit::of(model.map(|m| (m.r2, m.probe_beta().to_vec())), training_rows(features))
+}
+
+impl Batch {
+    /// Reads files, peptides, letters and rows, the peptide table, and the rows by column.
+    pub fn read(input: &mut Tokens) -> Result<Batch, String> {
+        let (files, peptides) = (input.number()?, input.number()?);
+        let (letters, n) = (input.number()?, input.number()?);
+        let peptides = read_peptides(input, peptides, letters)?;
+        let rows = read_rows(input, n, files, peptides.len(), Columns::Run)?;
+        Ok(Batch { files, peptides, rows })
+    }
+
+    /// Writes what `read` reads.
+    pub fn write(&self, out: &mut Output) {
+        let letters: usize = self.peptides.iter().map(|p| p.sequence.len()).sum();
+        out.number(self.files);
+        out.number(self.peptides.len());
+        out.number(letters);
+        out.number(self.rows.len());
+        let mut offset = 0;
+        out.number(0);
+        for peptide in &self.peptides {
+            offset += peptide.sequence.len();
+            out.number(offset);
+        }
+        let all = self.peptides.iter().flat_map(|p| &p.sequence);
+        all.for_each(|&letter| out.number(letter as usize));
+        self.peptides.iter().for_each(|p| out.bits(p.monoisotopic.to_bits() as u64));
+        self.peptides.iter().for_each(|p| out.f64(log_mass(p.monoisotopic)));
+        write_rows(out, &self.rows, Columns::Run);
+    }
+}
+
+/// Reads offsets, letters, masses and logs; the logs must be those of the masses.
+fn read_peptides(input: &mut Tokens, n: usize, letters: usize) -> Result<Vec<Peptide>, String> {
+    let offsets = input.column(n + 1, Tokens::number)?;
+    let letters = input.column(letters, |t| t.at_most(255).map(|x| x as u8))?;
+    let masses = input.column(n, Tokens::f32)?;
+    let logs = input.column(n, Tokens::f64)?;
+    if offsets[0] != 0 || offsets[n] != letters.len() {
+        return Err("offsets that don't span the letters".to_string());
+    }
+    if letters.iter().any(|x| !x.is_ascii_uppercase()) {
+        return Err("a letter outside A to Z".to_string());
+    }
+    let peptide = |i: usize| {
+        let sequence = letters.get(offsets[i]..offsets[i + 1]).ok_or("malformed offsets")?.to_vec();
+        match bits64(logs[i]) == bits64(log_mass(masses[i])) {
+            true => Ok(Peptide { sequence, monoisotopic: masses[i] }),
+            false => Err(format!("the log of mass {i} is {:016X}", bits64(log_mass(masses[i])))),
+        }
+    };
+    (0..n).map(peptide).collect()
+}
+
+/// Writes 8, 9, or 0 with the ridge, r2, n and the coefficients.
+fn write_fit(out: &mut Output, fit: &Fit) {
+    match fit {
+        Fit::NoTrainingRows => out.number(8),
+        Fit::NotSolved => out.number(9),
+        Fit::Solved { ridge, r2, n, beta } => {
+            out.number(0);
+            out.f64(*ridge);
+            out.f64(*r2);
+            out.number(*n);
+            beta.iter().for_each(|&x| out.f64(x));
+        }
+    }
+}
+
+/// Answers one run: 0, records and aligned times, both fits, and the fitted models' columns.
+pub fn answer(input: &mut Tokens, out: &mut Output) -> Result<(), String> {
+    let run = run(&Batch::read(input)?);
+    let features = &run.aligned.features;
+    out.number(0);
+    write_aligned(out, &run.aligned);
+    write_fit(out, &run.retention);
+    write_fit(out, &run.mobility);
+    if let Fit::Solved { .. } = run.retention {
+        features.iter().for_each(|f| out.f32(f.predicted_rt));
+        features.iter().for_each(|f| out.f32(f.delta_rt_model));
+    }
+    if let Fit::Solved { .. } = run.mobility {
+        features.iter().for_each(|f| out.f32(f.predicted_ims));
+        features.iter().for_each(|f| out.f32(f.delta_ims_model));
+    }
+    Ok(())
+}
+
+/// Answers masses (f32) by their logs (f64).
+pub fn answer_logs(input: &mut Tokens, out: &mut Output) -> Result<(), String> {
+    while !input.is_empty() {
+        out.f64(log_mass(input.f32()?));
+    }
+    Ok(())
+}

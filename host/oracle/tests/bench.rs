@@ -1,0 +1,117 @@
+//! The bench examples of document 01 that the Rust can show.
+
+use oracle::alignment::{align, Row};
+use oracle::leaf;
+use oracle::solve::System;
+use sage::database::{IndexedDatabase, PeptideIx};
+use sage::ml::mobility_model::MobilityModel;
+use sage::peptide::Peptide;
+
+/// A training row.
+fn row(file: usize, peptide: u32, rt: f32) -> Row {
+    Row { label: 1, rt, charge: 2, ims: 1.0, ..Row::new(file, PeptideIx(peptide)) }
+}
+
+/// The one file's longest time, slope and intercept, as patterns.
+fn record(rows: &[Row]) -> [u32; 3] {
+    let a = align(1, rows).records[0];
+    [a.max_rt, a.slope, a.intercept].map(f32::to_bits)
+}
+
+fn peptide(letters: &str) -> Peptide {
+    Peptide { sequence: letters.as_bytes().to_vec(), monoisotopic: 400.0 }
+}
+
+/// The retention model's design row.
+fn retention(letters: &str) -> Vec<f64> {
+    leaf::any_model().probe_embed(&peptide(letters))
+}
+
+/// The mobility model's design row at charge 2.
+fn mobility(letters: &str) -> Vec<f64> {
+    let db = IndexedDatabase { peptides: vec![peptide("ACDK")] };
+    let model = MobilityModel::fit(&db, &[row(0, 0, 10.0).feature()]).expect("one row is fitted");
+    model.probe_embed(&peptide(letters), 2)
+}
+
+/// The columns that are not 0 in a span, each with its number.
+fn held(row: &[f64], from: usize, to: usize) -> Vec<(usize, f64)> {
+    (from..to).filter(|&i| row[i] != 0.0).map(|i| (i - from, row[i])).collect()
+}
+
+/// The ridge and the solution of a system with one right column.
+fn solve(n: usize, left: &[f64], right: &[f64]) -> Option<(f64, Vec<f64>)> {
+    let system = System { n, c: 1, left: left.to_vec(), right: right.to_vec() };
+    system.solve().map(|s| (s.ridge, s.cells))
+}
+
+const A: usize = 0;
+const D: usize = 2;
+const K: usize = 8;
+
+#[test]
+fn longest_times() {
+    assert_eq!(record(&[row(0, 0, 9.2)])[0], 10f32.to_bits());
+    assert_eq!(record(&[row(0, 0, -3.0)])[0], 0);
+    assert_eq!(record(&[row(0, 0, 5E9)])[0], 4294967296f32.to_bits());
+    let ceil = |x: f32| leaf::float(2, [x.to_bits() as u64, 0, 0]);
+    assert_eq!([ceil(9.2), ceil(-3.0), ceil(5E9)], [Some(10), Some(0), Some(4_294_967_295)]);
+}
+
+#[test]
+fn no_rows() {
+    assert_eq!(record(&[]), [0, 0x3F80_0000, 0]);
+}
+
+#[test]
+fn the_programs_row() {
+    let rows = [row(0, 0, 10.0)];
+    assert_eq!(record(&rows), [0x4120_0000, 0, 0x3F80_0000]);
+    assert_eq!(align(1, &rows).features[0].aligned_rt.to_bits(), 0x3F80_0000);
+}
+
+#[test]
+fn two_files_two_peptides() {
+    let rows = [row(0, 0, 5.0), row(0, 1, 10.0), row(1, 0, 10.0), row(1, 1, 20.0)];
+    let slopes: Vec<u32> = align(2, &rows).records.iter().map(|a| a.slope.to_bits()).collect();
+    assert_eq!(slopes, [0x3F7F_FFFF, 0x3F7F_FFFF]);
+}
+
+#[test]
+fn acdk() {
+    assert_eq!(held(&retention("ACDK"), 44, 66), [(D, 1.0)]);
+    let row = mobility("ACDK");
+    assert_eq!(held(&row, 66, 88), [(D, 1.0), (K, 1.0)]);
+    let [branched, tiny, bulky, positive] = [88, 89, 91, 92].map(|i: usize| row[i]);
+    assert_eq!([bulky, branched, tiny, positive], [1.0, 1.0, 1.0, 0.0]);
+}
+
+#[test]
+fn acd_and_bj() {
+    assert_eq!(held(&retention("ACD"), 44, 66), []);
+    assert_eq!(held(&mobility("ACD"), 66, 88), [(D, 1.0)]);
+    assert_eq!(retention("BJ")[A], 2.0);
+    assert_eq!(mobility("BJ")[A], 2.0);
+}
+
+#[test]
+fn longest_peptide() {
+    let letters = "Y".repeat(255);
+    assert_eq!(retention(&letters)[..22].iter().sum::<f64>(), 255.0);
+    assert_eq!(mobility(&letters)[..22].iter().sum::<f64>(), 255.0);
+}
+
+#[test]
+fn systems() {
+    assert_eq!(solve(1, &[-1E-8], &[5.0]), Some((1E-8, vec![5.0])));
+    assert_eq!(solve(2, &[-1.0, 0.0, 0.0, 1.0], &[3.0, 4.0]), None);
+    assert_eq!(solve(1, &[f64::NAN], &[1.0]), None);
+}
+
+#[test]
+fn border_of_training() {
+    let trains = |q: u64| leaf::feature(1, [1, q, 0]);
+    assert_eq!(trains(0x3C23_D70A), Some(1));
+    assert_eq!(trains(0x3C23_D70B), Some(0));
+    assert_eq!(trains(0x7FC0_0000), Some(0));
+}

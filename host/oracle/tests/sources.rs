@@ -1,0 +1,19 @@
+//! The files compiled are sage's, byte for byte, with nothing but the probes appended.
+
+use std::path::Path;
+
+#[test]
+fn every_file_is_unchanged() {
+    assert_eq!(sage::COMPILED.len(), 8);
+    for (name, compiled, probe) in sage::COMPILED {
+        let source = std::fs::read(Path::new(sage::SOURCE).join(name)).expect(name);
+        assert!(compiled.strip_suffix(probe.as_bytes()) == Some(&source[..]), "{name} was changed");
+    }
+}
+
+#[test]
+fn only_the_models_have_a_probe() {
+    let probed = sage::COMPILED.iter().filter(|(_, _, probe)| !probe.is_empty());
+    let names: Vec<&str> = probed.map(|(name, _, _)| *name).collect();
+    assert_eq!(names, ["ml/retention_model.rs", "ml/mobility_model.rs"]);
+}
