@@ -37,7 +37,7 @@ pub enum Cell {
 }
 
 // The cell in a row and a column of a matrix of rows × cols cells (Rust's Matrix::get), for any numbers: outside where the matrix has no such
-// row or column or the slice ends before it.
+// row or column or the slice ends before it. A cell whose place does not fit 32 bits is outside too.
 pub fn get(cells: &[f64], rows: u32, cols: u32, row: u32, col: u32) -> Cell
     ensures { λ r. ⌜ r ≡ cellOf rows cols row col (now (cells .entry)) ⌝ }
 {
@@ -52,7 +52,7 @@ pub fn get(cells: &[f64], rows: u32, cols: u32, row: u32, col: u32) -> Cell
     }
     let at = (row * cols + col) as usize;
     if at < cells.len() {
-        Cell::Value(cells[at])
+        Cell::Value(float::canonical64(cells[at]))
     } else {
         Cell::Outside
     }

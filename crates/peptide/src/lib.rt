@@ -1,7 +1,6 @@
 // The peptide table: the letters of all peptides in one slice, and offsets that say where each peptide's begin and the last's end.
 use matrix::PeptideIx;
 ghost use mathlib.Core.Path.{_≡_};
-ghost use lib.ListN.{length};
 ghost use Rattle.peptide.specs.Table.{offsetsRight, lettersRight, tableStatus, sequenceOf, HasPeptide};
 
 // The most letters that a peptide may have.
