@@ -1,0 +1,33 @@
+-- Rows of a system of equations, beside matrix's rows: any cells. Definitions only.
+use mathlib.Core.List.{List, [], _∷_, _++_}
+use mathlib.Core.Path.{_≡_}
+use Prim.Native.Nat.{ℕ, zero, suc, _*_, _≤_}
+use lib.ListN.{length, getD}
+
+-- a row of a list of rows
+abbrev pub rowOf : {A : Type 0} → List (List A) → ℕ → List A
+rowOf rows i = getD rows i []
+
+-- each element made anew from its place in the list and what it is
+unfoldable pub indexed : {A : Type 0} → (ℕ → A → A) → List A → List A
+indexed g [] = []
+indexed g (x ∷ xs) = g zero x ∷ indexed (λ i. g (suc i)) xs
+
+-- each row of the left matrix followed by the same row of the right one
+unfoldable pub augmented : {A : Type 0} → List (List A) → List (List A) → List (List A)
+augmented [] right = []
+augmented (l ∷ left) [] = []
+augmented (l ∷ left) (r ∷ right) = (l ++ r) ∷ augmented left right
+
+-- the first list, each cell that has one beside it in the second made anew from the two
+unfoldable pub zipped : {A B : Type 0} → (A → B → A) → List A → List B → List A
+zipped g [] src = []
+zipped g (d ∷ dst) [] = d ∷ dst
+zipped g (d ∷ dst) (s ∷ src) = g d s ∷ zipped g dst src
+
+-- a system of n equations in rows of w cells, as the elimination takes it
+pub record Shape {A : Type 0} (n w : ℕ) (cells : List A) : Type 0 where
+  pub order : n ≤ 100
+  pub wide : w ≤ 108
+  pub left : n ≤ w
+  pub count : length cells ≡ n * w

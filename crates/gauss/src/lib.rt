@@ -1,0 +1,96 @@
+// Gauss::solve of gauss.rs: Gauss-Jordan elimination with a rising ridge.
+ghost use Prim.Native.Nat.{_+_};
+ghost use Rattle.gauss.specs.Rows.{Shape};
+ghost use Rattle.gauss.specs.Elimination.{Tried};
+ghost use Rattle.gauss.specs.Solve.{solutionOf, Solves, Accepted, Searched};
+
+mod cells;
+mod echelon;
+mod limits;
+mod reduced;
+mod row;
+mod system;
+
+pub use system::right_side;
+
+// What a call of `solve` answers: the ridge that solved the system, that none did, or that the call is refused with this status.
+pub enum SolveAnswer {
+    Solved(f64),
+    Unsolved,
+    Refused(u32),
+}
+
+// One try on the rows [left | right] of n + c cells each: adds the ridge `eps` to the left diagonal, eliminates, and says whether the left side
+// is solved; then the right side holds the solution. For `solve` here and the fit of crate regression.
+pub fn solve_inner(cells: &mut [f64], n: usize, c: usize, eps: f64) -> bool
+    requires { ⌜ Shape n (n + c) (now cells) ⌝ }
+    ensures { λ r. ⌜ Tried n c eps (now (cells .entry)) (now (cells .exit)) r ⌝ }
+{
+    let w = n + c;
+    echelon::fill_zero(cells, n, w, eps);
+    echelon::echelon(cells, n, w);
+    reduced::reduce(cells, n, w);
+    reduced::backfill(cells, n, w);
+    reduced::left_solved(&cells[..], n, w)
+}
+
+// The first ridge that solves the system; the solution is written only then. `cells` is the needed workspace and ends as +0.0.
+fn first_solved(
+    left: &[f64],
+    right: &[f64],
+    n: usize,
+    c: usize,
+    cells: &mut [f64],
+    solution: &mut [f64],
+) -> SolveAnswer
+    requires { ⌜ Accepted (now left) (now right) n c (now cells) (now solution) ⌝ }
+    ensures { λ r. ⌜ Searched (solutionOf n c (now (left .entry)) (now (right .entry))) r (now (cells .entry)) (now (cells .exit)) (now (solution .entry)) (now (solution .exit)) ⌝ }
+{
+    let mut eps = 1E-8;
+    while eps <= 1.0 {
+        system::augment(cells, left, right, n, c);
+        if solve_inner(cells, n, c, eps) {
+            system::right_side(solution, &cells[..], n, c);
+            matrix::zeros(cells);
+            return SolveAnswer::Solved(eps);
+        }
+        eps = eps * 10.0;
+    }
+    matrix::zeros(cells);
+    SolveAnswer::Unsolved
+}
+
+// Solves left · x = right, left n rows of n cells and right n rows of c. Once the checks have passed, the first n * n + n * c cells of
+// `workspace` end as +0.0. `solution` gets the n * c cells of x if a ridge solves the system, and keeps what it held otherwise.
+pub fn solve(
+    left: &[f64],
+    right: &[f64],
+    n: usize,
+    c: usize,
+    workspace: &mut [f64],
+    solution: &mut [f64],
+) -> SolveAnswer
+    ensures { λ r. ⌜ Solves (now (left .entry)) (now (right .entry)) n c (now (workspace .entry)) (now (solution .entry)) r (now (workspace .exit)) (now (solution .exit)) ⌝ }
+{
+    let status = limits::check(
+        left.len(),
+        right.len(),
+        n,
+        c,
+        workspace.len(),
+        solution.len(),
+    );
+    if status != 0 {
+        return SolveAnswer::Refused(status);
+    }
+    let outputs = n * c;
+    let needed = n * n + outputs;
+    first_solved(
+        left,
+        right,
+        n,
+        c,
+        &mut workspace[..needed],
+        &mut solution[..outputs],
+    )
+}
