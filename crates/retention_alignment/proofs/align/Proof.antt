@@ -1,0 +1,177 @@
+-- `retention_alignment::align` meets its contract: each step's result is what the definitions take next. Assumes nothing.
+use mathlib.Core.Path.{_≡_, refl, sym, ap, _∙_}
+use mathlib.Core.List.{List, _++_, map}
+use Prim.Native.Nat.{ℕ, _*_, _≤_, _<_, _^_}
+use native.Mathlib.Omega.{arith}
+use borrow.Author.Needs.{needs}
+use denote.Ref.{now}
+use lib.ListN.{length, take, drop, replicate, length-append, length-replicate}
+use lib.Seq.{length-take-le, take-at}
+use lib.Ieee.{Float, binary64, ofBits}
+use Rattle.feature.specs.Checks.{allBelow, maxFiles}
+use Rattle.matrix.specs.Rows.{rowsOf}
+use Rattle.rt_matrix.specs.Line.{lines}
+use Rattle.rt_matrix.specs.Cells.{decode}
+use Rattle.rt_matrix.specs.declared.Alignment.{Alignment}
+use Rattle.rt_matrix.proofs.Lists.{take-replicate, length-tabulate}
+use Rattle.retention_alignment.specs.Observation.{maxRt, maxRts}
+use Rattle.retention_alignment.specs.Alignments.{alignments, aligned}
+use Rattle.retention_alignment.specs.Call.{Input, rows, recordsFor}
+use Rattle.retention_alignment.proofs.align.Statement.{statement}
+use Rattle.retention_alignment.proofs.align.Tie as tie
+
+-- ---- the array of longest times
+
+abbrev zeros : List ℕ
+zeros = replicate maxFiles 0
+
+part : (n : ℕ) → n ≤ maxFiles → length (take n zeros) ≡ n
+part n h = length-take-le n zeros (omega (arith, length-replicate {A = ℕ} maxFiles 0))
+
+-- ---- the places
+
+abbrev start : tie.After-max → tie.Start
+start c = c .before .before .before .before .before .before .before .before .before .before
+
+abbrev longest : tie.After-mean-rt-by-file → tie.After-max-rt-by-file
+longest c = c .before .before .before
+
+abbrev smallest : tie.After-fit-lines → tie.After-mean-rt-by-file
+smallest c = c .before .before .before .before .before .before .before .before
+
+-- what is read
+abbrev input : tie.Start → Input
+input s = let a = s .args in record { file = now (a .file); peptide = now (a .peptide); label = now (a .label); q = now (a .q); rt = now (a .rt); files = a .files; peptides = a .peptides }
+
+-- the longest times as `max_rt_by_file` leaves them, and the part of the array that is borrowed next
+abbrev maxes : tie.After-max-rt-by-file → List ℕ
+maxes r = r .max-rt-by-file .last .1 .1 .0
+
+maxes-long : (r : tie.After-max-rt-by-file) → length (maxes r) ≡ start (r .before) .args .files
+maxes-long r = let s = start (r .before) in r .max-rt-by-file .kept .1 .1 .0 ∙ part (s .args .files) (s .pre .files-max)
+
+abbrev borrowed : tie.After-max-rt-by-file → List ℕ
+borrowed r = let n = start (r .before) .args .files in take n (maxes r ++ drop n zeros)
+
+borrowed-is : (r : tie.After-max-rt-by-file) → borrowed r ≡ maxes r
+borrowed-is r = let n = start (r .before) .args .files in take-at (maxes r) (drop n zeros) n (maxes-long r)
+
+borrowed-long : (r : tie.After-max-rt-by-file) → length (borrowed r) ≡ start (r .before) .args .files
+borrowed-long r = ap length (borrowed-is r) ∙ maxes-long r
+
+maxes-are : (r : tie.After-max-rt-by-file) → let s = start (r .before) in maxes r ≡ maxRts (s .args .files) (rows (input s))
+maxes-are r =
+    let s = start (r .before) in
+    r .max-rt-by-file .ensures (now (s .args .peptide)) (s .pre .peptide) ∙ ap (λ (n : ℕ). maxRts n (rows (input s))) (part (s .args .files) (s .pre .files-max))
+
+-- the matrix keeps its length
+cells-long : (d : tie.After-mean-rt-by-file) → let s = start (longest d .before) in length (d .mean-rt-by-file .last .1 .1 .1 .1 .1 .1 .1 .0) ≡ s .args .peptides * s .args .files
+cells-long d = d .mean-rt-by-file .kept .1 .1 .1 .1 .1 .1 .1 .0 ∙ start (longest d .before) .pre .workspace
+
+array-borrow-prefix-max : tie.Need-array-borrow-prefix-max
+array-borrow-prefix-max c = search needs
+
+slice-aggregate-max-rt-by-file : tie.Need-slice-aggregate-max-rt-by-file
+slice-aggregate-max-rt-by-file c = sym (part (start c .args .files) (start c .pre .files-max))
+
+max-rt-by-file-requires : tie.Need-max-rt-by-file-requires
+max-rt-by-file-requires c κs =
+    let s = start c in
+    let n = part (s .args .files) (s .pre .files-max) in
+    (s .pre .rt, ap (λ (k : ℕ). allBelow k (now (s .args .file))) n ∙ s .pre .file-numbers, take-replicate (s .args .files) maxFiles 0 (s .pre .files-max) ∙ ap (λ (k : ℕ). replicate k 0) (sym n))
+
+cast-mean-rt-by-file : tie.Need-cast-mean-rt-by-file
+cast-mean-rt-by-file c = search needs
+
+mean-rt-by-file-requires : tie.Need-mean-rt-by-file-requires
+mean-rt-by-file-requires c κs =
+    let p = start (c .before .before .before) .pre in
+    ((p .peptide, p .label, p .q, p .rt), (p .file-numbers, p .peptide-numbers, p .workspace, omega (arith, p .cells-max)))
+
+array-share-prefix-max : tie.Need-array-share-prefix-max
+array-share-prefix-max c =
+    let r = c .before .before .before .before .before .before in
+    let n = start (r .before) .args .files in
+    omega (arith, length-append (maxes r) (drop n zeros), maxes-long r)
+
+slice-aggregate-fit-lines : tie.Need-slice-aggregate-fit-lines
+slice-aggregate-fit-lines c = sym (borrowed-long (c .before .before .before .before .before .before .before))
+
+fit-lines-requires : tie.Need-fit-lines-requires
+fit-lines-requires c κs =
+    let d = c .before .before .before .before .before .before .before in
+    let r = longest d in
+    let s = start (r .before) in
+    let n = borrowed-long r in
+    let p = s .pre in
+    (cells-long d ∙ ap (λ (k : ℕ). s .args .peptides * k) (sym n), omega (arith, p .peptides-max), omega (arith, n, p .files-max), p .maxRt ∙ sym n, p .slope ∙ sym n, p .intercept ∙ sym n)
+
+align-rows-requires : tie.Need-align-rows-requires
+align-rows-requires c κs =
+    let g = c .before .before .before .before .before .before .before .before .before .before in
+    let s = start (longest (smallest g) .before) in
+    let p = s .pre in
+    let k = g .fit-lines .kept in
+    let m = k .1 .1 .1 .0 ∙ p .maxRt in
+    (p .rt, p .aligned, ap (λ (n : ℕ). allBelow n (now (s .args .file))) m ∙ p .file-numbers, k .1 .1 .1 .1 .0 ∙ p .slope ∙ sym m, k .1 .1 .1 .1 .1 .0 ∙ p .intercept ∙ sym m)
+
+zeros-requires : tie.Need-zeros-requires
+zeros-requires c κs = search needs
+
+same-length : tie.Need-same-length
+same-length c = search needs
+
+same-length-2 : tie.Need-same-length-2
+same-length-2 c = search needs
+
+same-length-3 : tie.Need-same-length-3
+same-length-3 c = search needs
+
+same-length-4 : tie.Need-same-length-4
+same-length-4 c = search needs
+
+same-length-5 : tie.Need-same-length-5
+same-length-5 c = search needs
+
+returns : tie.Need-returns
+unfolding alignments maxRts
+returns c =
+    let z = c .before .before in
+    let w = c .before .before .before .before .before .before in
+    let g = c .before .before .before .before .before .before .before .before .before .before .before .before .before .before .before .before .before in
+    let d = smallest g in
+    let r = longest d in
+    let s = start (r .before) in
+    let i = input s in
+    let cells = d .mean-rt-by-file .last .1 .1 .1 .1 .1 .1 .1 .0 in
+    let ms = maxRts (i .files) (rows i) in
+    let found = g .fit-lines .ensures
+    ∙ ap (λ (l : List ℕ). lines l (map (map decode) (rowsOf (length l) (i .peptides) cells))) (borrowed-is r ∙ maxes-are r)
+    ∙ ap (λ (n : ℕ). lines ms (map (map decode) (rowsOf n (i .peptides) cells))) (length-tabulate (i .files) (λ f. maxRt f (rows i)))
+    ∙ ap (lines ms) (d .mean-rt-by-file .ensures) in
+    record {
+      workspace = z .zeros .ensures ∙ ap (λ (n : ℕ). replicate n (ofBits binary64 0)) (cells-long d);
+      records = found;
+      aligned = w .align-rows .ensures (now (s .args .peptide)) (s .pre .peptide) ∙ ap (λ (l : List Alignment). map (aligned l) (rows i)) found;
+    }
+
+pub align-spec : {M : Type 1} → statement M
+align-spec =
+    tie.close
+    (tie.spec
+    array-borrow-prefix-max
+    slice-aggregate-max-rt-by-file
+    max-rt-by-file-requires
+    cast-mean-rt-by-file
+    mean-rt-by-file-requires
+    array-share-prefix-max
+    slice-aggregate-fit-lines
+    fit-lines-requires
+    align-rows-requires
+    zeros-requires
+    same-length
+    same-length-2
+    same-length-3
+    same-length-4
+    same-length-5
+    returns)

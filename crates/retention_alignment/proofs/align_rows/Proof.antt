@@ -1,0 +1,164 @@
+-- `retention_alignment::align_rows` meets its contract. The loop's invariant: the first i rows' times are written (`upTo i`), and the length is as
+-- it was. Assumes nothing.
+use mathlib.Core.Path.{_≡_, refl, sym, ap, ap₂, _∙_}
+use mathlib.Core.List.{List, map}
+use Prim.Native.Nat.{ℕ, _+_, _-_, _*_, _≤_, _<_}
+use native.Mathlib.Omega.{arith}
+use borrow.Author.Needs.{needs, scaled-fits}
+use mir.Syntax.{w64}
+use mir.Val.{Fits}
+use denote.Ref.{now}
+use lib.ListN.{length, getD, set, length-set, length-map, List·getD-map}
+use lib.Ieee.{Float, nan}
+use Rattle.feature.proofs.Laws.{below-at}
+use Rattle.rt_matrix.specs.Cells.{recordsOf}
+use Rattle.rt_matrix.specs.declared.Alignment.{Alignment}
+use Rattle.rt_matrix.proofs.Lists.{upTo, upTo-step, upTo-all, over, zipped-over}
+use Rattle.rt_matrix.proofs.RecordColumns.{records-at}
+use Rattle.retention_alignment.specs.Observation.{Obs, observations}
+use Rattle.retention_alignment.specs.Alignments.{aligned as alignedRow, alignedBy, noAlignment}
+use Rattle.retention_alignment.proofs.Rows.{rowAt, rows-at, length-rows}
+use Rattle.retention_alignment.proofs.align_rows.Statement.{statement}
+use Rattle.retention_alignment.proofs.align_rows.Tie as tie
+
+-- a row that stands past the end of the rows
+abbrev noRow : Obs
+noRow = record { file = 0; peptide = 0; rt = nan }
+
+row-time : (recs : List Alignment) (fs ps : List ℕ) (ts : List Float) (i : ℕ) → alignedBy (getD recs (getD fs i 0) noAlignment) (getD ts i nan) ≡ alignedRow recs (rowAt fs ps ts i)
+unfolding alignedRow
+row-time recs fs ps ts i = refl
+
+abbrev Inv-loop : tie.InvT-loop
+Inv-loop file rt max-rt slope intercept aligned₀ i₀ aligned i =
+    (i ≤ length file)
+    × (length aligned ≡ length file)
+    × ((ps : List ℕ) → length ps ≡ length file → aligned ≡ upTo over i aligned₀ (map (alignedRow (recordsOf max-rt slope intercept)) (observations file ps rt)))
+
+abbrev μ-loop : tie.MeasureT-loop
+μ-loop file rt max-rt slope intercept aligned₀ i₀ aligned i = length file - i
+
+-- where the function begins
+abbrev start : tie.At-loop Inv-loop μ-loop → tie.Start Inv-loop μ-loop
+start at = at .before .before .before .before .before .before .before
+
+-- a row's file has a record
+file-below : (t : tie.In-loop Inv-loop μ-loop) → let s = start (t .before) in getD (now (s .args .file)) (t .before .loop .i) 0 < length (now (s .args .max-rt))
+file-below t = let s = start (t .before) in below-at (length (now (s .args .max-rt))) (now (s .args .file)) (t .before .loop .i) (s .pre .2) (t .loop-test .taken)
+
+-- the place of a cell of its record
+scaled : (t : tie.In-loop Inv-loop μ-loop) → let s = start (t .before) in Fits w64 (getD (now (s .args .file)) (t .before .loop .i) 0 * 4)
+scaled t = let s = start (t .before) in scaled-fits _ (length (now (s .args .max-rt))) 4 (file-below t) (s .good .1 .1 .0 .1)
+
+loop-holds : tie.Need-loop-holds Inv-loop μ-loop
+unfolding upTo
+loop-holds c = (search needs, search needs, λ ps e. refl)
+
+mul-t10 : tie.Need-mul-t10 Inv-loop μ-loop
+mul-t10 c = search needs
+
+shared-slice-read-t13 : tie.Need-shared-slice-read-t13 Inv-loop μ-loop
+shared-slice-read-t13 c = search needs
+
+cast-k : tie.Need-cast-k Inv-loop μ-loop
+cast-k c = search needs
+
+mul-t10-2 : tie.Need-mul-t10-2 Inv-loop μ-loop
+mul-t10-2 c = scaled (c .before .before)
+
+shared-slice-read-t16 : tie.Need-shared-slice-read-t16 Inv-loop μ-loop
+shared-slice-read-t16 c = file-below (c .before .before .before)
+
+mul-t17 : tie.Need-mul-t17 Inv-loop μ-loop
+mul-t17 c = scaled (c .before .before .before)
+
+shared-slice-read-t19 : tie.Need-shared-slice-read-t19 Inv-loop μ-loop
+shared-slice-read-t19 c = let t = c .before .before .before .before in omega (arith, file-below t, start (t .before) .pre .3)
+
+mul-t20 : tie.Need-mul-t20 Inv-loop μ-loop
+mul-t20 c = scaled (c .before .before .before .before)
+
+shared-slice-read-t22 : tie.Need-shared-slice-read-t22 Inv-loop μ-loop
+shared-slice-read-t22 c = let t = c .before .before .before .before .before in omega (arith, file-below t, start (t .before) .pre .4)
+
+mul-aligned-time : tie.Need-mul-aligned-time Inv-loop μ-loop
+mul-aligned-time c = search needs
+
+shared-slice-read-aligned-time : tie.Need-shared-slice-read-aligned-time Inv-loop μ-loop
+shared-slice-read-aligned-time c = search needs
+
+aligned-time-requires : tie.Need-aligned-time-requires Inv-loop μ-loop
+aligned-time-requires c κs = search needs
+
+mul-aligned : tie.Need-mul-aligned Inv-loop μ-loop
+mul-aligned c = search needs
+
+slice-write-aligned : tie.Need-slice-write-aligned Inv-loop μ-loop
+slice-write-aligned c = search needs
+
+add-i : tie.Need-add-i Inv-loop μ-loop
+add-i c = search needs
+
+loop-less : tie.Need-loop-less Inv-loop μ-loop
+loop-less c = search needs
+
+loop-again : tie.Need-loop-again Inv-loop μ-loop
+loop-again c =
+    let t = c .before .before .before .before .before .before .before in
+    let at = t .before in
+    let s = start at in
+    let a = s .args in
+    let i = at .loop .i in
+    let recs = recordsOf (now (a .max-rt)) (now (a .slope)) (now (a .intercept)) in
+    let at-file = records-at (now (a .max-rt)) (now (a .slope)) (now (a .intercept)) (length (now (a .max-rt))) refl (s .pre .3) (s .pre .4) (getD (now (a .file)) i 0) noAlignment (file-below t) in (
+      omega arith,
+      simp length-set (at .loop .inv .1),
+      λ ps e.
+          let os = observations (now (a .file)) ps (now (a .rt)) in
+          upTo-step over i (now (a .aligned)) (map (alignedRow recs) os) (at .loop .aligned) _ (c .aligned-time .result) nan (alignedRow recs noRow) (at .loop .inv .2 ps e) refl
+          (c .aligned-time .ensures
+          ∙ ap (λ (r : Alignment). alignedBy r (getD (now (a .rt)) i nan)) (sym at-file)
+          ∙ row-time recs (now (a .file)) ps (now (a .rt)) i
+          ∙ ap (alignedRow recs) (sym (rows-at (now (a .file)) ps (now (a .rt)) i noRow (t .loop-test .taken) (omega arith) (omega arith)))
+          ∙ sym (List·getD-map (alignedRow recs) os i noRow))
+          (omega (arith, length-map os (alignedRow recs), length-rows (now (a .file)) ps (now (a .rt)) e (s .pre .0))),
+    )
+
+same-length : tie.Need-same-length Inv-loop μ-loop
+same-length c = search needs
+
+returns : tie.Need-returns Inv-loop μ-loop
+returns c = λ ps e.
+    let at = c .before in
+    let s = start at in
+    let a = s .args in
+    let recs = recordsOf (now (a .max-rt)) (now (a .slope)) (now (a .intercept)) in
+    let os = observations (now (a .file)) ps (now (a .rt)) in
+    at .loop .inv .2 ps e ∙ upTo-all _ _ _ _ (omega arith) ∙ zipped-over _ _ (s .pre .1 ∙ sym (length-map os (alignedRow recs) ∙ length-rows (now (a .file)) ps (now (a .rt)) e (s .pre .0)))
+
+pub align-rows-spec : {M : Type 1} → statement M
+align-rows-spec =
+    tie.close
+    (tie.spec
+    Inv-loop
+    μ-loop
+    loop-holds
+    mul-t10
+    shared-slice-read-t13
+    cast-k
+    mul-t10-2
+    shared-slice-read-t16
+    mul-t17
+    shared-slice-read-t19
+    mul-t20
+    shared-slice-read-t22
+    mul-aligned-time
+    shared-slice-read-aligned-time
+    aligned-time-requires
+    mul-aligned
+    slice-write-aligned
+    add-i
+    loop-less
+    loop-again
+    same-length
+    returns)

@@ -1,0 +1,24 @@
+-- The files' records from the files' longest times and the training rows, and a row's aligned time from the records. Definitions only.
+use Prim.Native.Nat.{ℕ}
+use mathlib.Core.List.{List}
+use lib.ListN.{getD}
+use lib.Ieee.{Float, binary32, add, mul, div, ofBits}
+use Rattle.rt_matrix.specs.Line.{lines}
+use Rattle.rt_matrix.specs.declared.Alignment.{Alignment}
+use Rattle.retention_alignment.specs.Observation.{Obs, minRts}
+
+-- the record of each file, from file 0
+unfoldable pub alignments : (files peptides : ℕ) → (maxRts : List ℕ) → (training : List Obs) → List Alignment
+alignments files peptides maxRts training = lines maxRts (minRts files peptides training)
+
+-- a time by a record, each operation rounded in f32
+unfoldable pub alignedBy : Alignment → Float → Float
+alignedBy a t = add binary32 (mul binary32 (div binary32 t (a .«max_rt»)) (a .slope)) (a .intercept)
+
+-- what stands for a file that has no record: no accepted row has such a file
+abbrev pub noAlignment : Alignment
+noAlignment = record { «max_rt» = ofBits binary32 0; slope = ofBits binary32 0; intercept = ofBits binary32 0 }
+
+-- a row's aligned time: by its file's record
+unfoldable pub aligned : List Alignment → Obs → Float
+aligned records o = alignedBy (getD records (o .file) noAlignment) (o .rt)

@@ -1,0 +1,69 @@
+-- `rt_matrix::fit_line` meets its contract: its steps are the definition's. Assumes nothing.
+use mathlib.Core.Path.{_≡_, refl, sym, ap, ap₂, _∙_}
+use borrow.Author.Needs.{needs}
+use Prim.Native.Nat.{ℕ}
+use lib.Ieee.{Float, binary64, sub, mul, div}
+use Rattle.float.specs.Convert.{narrowed}
+use Rattle.rt_matrix.specs.Line.{number, one64, zero64, finiteOr, lineOf}
+use Rattle.rt_matrix.specs.declared.Alignment.{Alignment}
+use Rattle.rt_matrix.proofs.fit_line.Statement.{statement}
+use Rattle.rt_matrix.proofs.fit_line.Tie as tie
+
+u32-to-f64-requires : tie.Need-u32-to-f64-requires
+u32-to-f64-requires c κs = search needs
+
+u32-to-f64-requires-2 : tie.Need-u32-to-f64-requires-2
+u32-to-f64-requires-2 c κs = search needs
+
+narrow-requires : tie.Need-narrow-requires
+narrow-requires c κs = search needs
+
+finite-or-requires : tie.Need-finite-or-requires
+finite-or-requires c κs = search needs
+
+narrow-requires-2 : tie.Need-narrow-requires-2
+narrow-requires-2 c κs = search needs
+
+finite-or-requires-2 : tie.Need-finite-or-requires-2
+finite-or-requires-2 c κs = search needs
+
+narrow-requires-3 : tie.Need-narrow-requires-3
+narrow-requires-3 c κs = search needs
+
+abbrev rec : Float → Float → Float → Alignment
+rec m s i = record { «max_rt» = m; slope = s; intercept = i }
+
+-- `lineOf`, with the number of points as the float n
+abbrev fitted : ℕ → Float → Float → Float → Float → Float → Alignment
+fitted m n dot sumX sumY sx2 =
+    let xMean = div binary64 sumX n in
+    let yMean = div binary64 sumY n in
+    let slope = div binary64 (sub binary64 dot (mul binary64 (mul binary64 n xMean) yMean)) sx2 in
+    let intercept = sub binary64 yMean (mul binary64 slope xMean) in
+    rec (narrowed (number m)) (narrowed (finiteOr one64 slope)) (narrowed (finiteOr zero64 intercept))
+
+returns : tie.Need-returns
+unfolding lineOf
+returns c =
+    let d = c .before .before .before .before .before in
+    let a = d .before .before .before .before .before .args in
+    let n = d .before .before .before .before .u32-to-f64 in
+    let m = c .before .before .before .before .narrow .ensures ∙ ap narrowed (d .u32-to-f642 .ensures) in
+    let s = c .before .before .narrow2 .ensures ∙ ap narrowed (c .before .before .before .finite-or .ensures) in
+    let i = c .narrow3 .ensures ∙ ap narrowed (c .before .finite-or2 .ensures) in
+    ap (λ (x : Float). rec x (c .before .before .narrow2 .result) (c .narrow3 .result)) m
+    ∙ ap₂ (rec (narrowed (number (a .max)))) s i
+    ∙ ap (λ (x : Float). fitted (a .max) x (a .s .dot) (a .s .«sum_x») (a .s .«sum_y») (a .sx2)) (n .ensures)
+
+pub fit-line-spec : {M : Type 1} → statement M
+fit-line-spec =
+    tie.close
+    (tie.spec
+    u32-to-f64-requires
+    u32-to-f64-requires-2
+    narrow-requires
+    finite-or-requires
+    narrow-requires-2
+    finite-or-requires-2
+    narrow-requires-3
+    returns)

@@ -1,0 +1,106 @@
+-- `rt_matrix::fit_lines` meets its contract: the parts of the arrays that it lends are fresh columns. Assumes nothing.
+use mathlib.Core.Path.{_≡_, refl, sym, ap, _∙_}
+use mathlib.Core.List.{List}
+use Prim.Native.Nat.{ℕ, _≤_, _<_}
+use native.Mathlib.Omega.{arith}
+use borrow.Author.Needs.{needs}
+use denote.Ref.{now}
+use lib.ListN.{length, take, replicate, length-replicate}
+use lib.Seq.{length-take-le}
+use lib.Ieee.{Float}
+use Rattle.feature.specs.Checks.{maxFiles}
+use Rattle.rt_matrix.specs.Line.{zero64, sx2Start}
+use Rattle.rt_matrix.specs.Cells.{Fresh}
+use Rattle.rt_matrix.proofs.Lists.{take-replicate}
+use Rattle.rt_matrix.proofs.fit_lines.Statement.{statement}
+use Rattle.rt_matrix.proofs.fit_lines.Tie as tie
+
+-- a part of an array that a repeat made
+part : {A : Type 0} (ms : List ℕ) (v : A) → length ms ≤ maxFiles → length ms ≡ length (take (length ms) (replicate maxFiles v))
+part ms v h = sym (length-take-le (length ms) (replicate maxFiles v) (omega (arith, length-replicate maxFiles v)))
+
+array-borrow-prefix-len : tie.Need-array-borrow-prefix-len
+array-borrow-prefix-len c = search needs
+
+slice-aggregate-fit-columns : tie.Need-slice-aggregate-fit-columns
+slice-aggregate-fit-columns c = part (now (c .before .before .before .before .before .before .args .max)) 0 (c .before .before .before .before .before .before .pre .2)
+
+array-borrow-prefix-dot : tie.Need-array-borrow-prefix-dot
+array-borrow-prefix-dot c = search needs
+
+slice-aggregate-fit-columns-2 : tie.Need-slice-aggregate-fit-columns-2
+slice-aggregate-fit-columns-2 c = part (now (c .before .before .before .before .before .before .before .args .max)) zero64 (c .before .before .before .before .before .before .before .pre .2)
+
+array-borrow-prefix-sum-x : tie.Need-array-borrow-prefix-sum-x
+array-borrow-prefix-sum-x c = search needs
+
+slice-aggregate-fit-columns-3 : tie.Need-slice-aggregate-fit-columns-3
+slice-aggregate-fit-columns-3 c = part (now (c .before .before .before .before .before .before .before .before .args .max)) zero64 (c .before .before .before .before .before .before .before .before .pre .2)
+
+array-borrow-prefix-sum-y : tie.Need-array-borrow-prefix-sum-y
+array-borrow-prefix-sum-y c = search needs
+
+slice-aggregate-fit-columns-4 : tie.Need-slice-aggregate-fit-columns-4
+slice-aggregate-fit-columns-4 c = part (now (c .before .before .before .before .before .before .before .before .before .args .max)) zero64 (c .before .before .before .before .before .before .before .before .before .pre .2)
+
+array-borrow-prefix-x-mean : tie.Need-array-borrow-prefix-x-mean
+array-borrow-prefix-x-mean c = search needs
+
+slice-aggregate-fit-columns-5 : tie.Need-slice-aggregate-fit-columns-5
+slice-aggregate-fit-columns-5 c = part (now (c .before .before .before .before .before .before .before .before .before .before .args .max)) zero64 (c .before .before .before .before .before .before .before .before .before .before .pre .2)
+
+array-borrow-prefix-sx2 : tie.Need-array-borrow-prefix-sx2
+array-borrow-prefix-sx2 c = search needs
+
+slice-aggregate-fit-columns-6 : tie.Need-slice-aggregate-fit-columns-6
+slice-aggregate-fit-columns-6 c = part (now (c .before .before .before .before .before .before .before .before .before .before .before .args .max)) sx2Start (c .before .before .before .before .before .before .before .before .before .before .before .pre .2)
+
+fit-columns-requires : tie.Need-fit-columns-requires
+fit-columns-requires c κs =
+    let s = c .before .before .before .before .before .before .before .before .before .before .before .before .before .before in
+    let n = length (now (s .args .max)) in
+    let g = s .pre in (
+      record {
+        len = take-replicate n maxFiles 0 (g .2);
+        dot = take-replicate n maxFiles zero64 (g .2);
+        sumX = take-replicate n maxFiles zero64 (g .2);
+        sumY = take-replicate n maxFiles zero64 (g .2);
+        means = sym (part (now (s .args .max)) zero64 (g .2));
+        squares = take-replicate n maxFiles sx2Start (g .2);
+      },
+      (g .0, g .1, omega arith, g .3, g .4, g .5),
+    )
+
+same-length : tie.Need-same-length
+same-length c = search needs
+
+same-length-2 : tie.Need-same-length-2
+same-length-2 c = search needs
+
+same-length-3 : tie.Need-same-length-3
+same-length-3 c = search needs
+
+returns : tie.Need-returns
+returns c = search needs
+
+pub fit-lines-spec : {M : Type 1} → statement M
+fit-lines-spec =
+    tie.close
+    (tie.spec
+    array-borrow-prefix-len
+    slice-aggregate-fit-columns
+    array-borrow-prefix-dot
+    slice-aggregate-fit-columns-2
+    array-borrow-prefix-sum-x
+    slice-aggregate-fit-columns-3
+    array-borrow-prefix-sum-y
+    slice-aggregate-fit-columns-4
+    array-borrow-prefix-x-mean
+    slice-aggregate-fit-columns-5
+    array-borrow-prefix-sx2
+    slice-aggregate-fit-columns-6
+    fit-columns-requires
+    same-length
+    same-length-2
+    same-length-3
+    returns)

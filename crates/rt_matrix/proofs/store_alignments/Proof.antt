@@ -1,0 +1,174 @@
+-- `rt_matrix::store_alignments` meets its contract. The loop's invariant: the first f records are written (`upTo f`), and the lengths are as they
+-- were. Assumes nothing.
+use mathlib.Core.Path.{_≡_, refl, sym, ap, _∙_}
+use Prim.Native.Nat.{ℕ, _+_, _-_, _≤_, _<_}
+use native.Mathlib.Omega.{arith}
+use borrow.Author.Needs.{needs}
+use denote.Ref.{now}
+use lib.ListN.{length, getD, length-set}
+use lib.Ieee.{Float, nan}
+use Rattle.rt_matrix.specs.Line.{lineOf}
+use Rattle.rt_matrix.specs.Cells.{sumsOf, recordsOf, recordsFrom}
+use Rattle.rt_matrix.specs.declared.sums.Sums.{Sums}
+use Rattle.rt_matrix.proofs.Lists.{upTo, upTo-step, upTo-all, over, zipped-over}
+use Rattle.rt_matrix.proofs.SumColumns.{length-sums, sums-at}
+use Rattle.rt_matrix.proofs.RecordColumns.{noRecord, records-set, length-records, length-from, from-at}
+use Rattle.rt_matrix.proofs.store_alignments.Statement.{statement}
+use Rattle.rt_matrix.proofs.store_alignments.Tie as tie
+
+abbrev Inv-loop : tie.InvT-loop
+Inv-loop max len dot sum-x sum-y sx2 max-rt₀ slope₀ intercept₀ f₀ max-rt slope intercept f =
+    (f ≤ length max)
+    × (length max-rt ≡ length max)
+    × (length slope ≡ length max)
+    × (length intercept ≡ length max)
+    × (recordsOf max-rt slope intercept ≡ upTo over f (recordsOf max-rt₀ slope₀ intercept₀) (recordsFrom max (sumsOf len dot sum-x sum-y) sx2))
+
+abbrev μ-loop : tie.MeasureT-loop
+μ-loop max len dot sum-x sum-y sx2 max-rt₀ slope₀ intercept₀ f₀ max-rt slope intercept f = length max - f
+
+-- where the function begins
+abbrev start : tie.At-loop Inv-loop μ-loop → tie.Start Inv-loop μ-loop
+start at = at .before .before .before .before .before .before .before .before .before .before
+
+loop-holds : tie.Need-loop-holds Inv-loop μ-loop
+unfolding upTo
+loop-holds c = (search needs, search needs, search needs, search needs, refl)
+
+mul-fit-line : tie.Need-mul-fit-line Inv-loop μ-loop
+mul-fit-line c = search needs
+
+shared-slice-read-fit-line : tie.Need-shared-slice-read-fit-line Inv-loop μ-loop
+shared-slice-read-fit-line c = search needs
+
+mul-t16 : tie.Need-mul-t16 Inv-loop μ-loop
+mul-t16 c = search needs
+
+shared-slice-read-t18 : tie.Need-shared-slice-read-t18 Inv-loop μ-loop
+shared-slice-read-t18 c = search needs
+
+mul-t19 : tie.Need-mul-t19 Inv-loop μ-loop
+mul-t19 c = search needs
+
+shared-slice-read-t21 : tie.Need-shared-slice-read-t21 Inv-loop μ-loop
+shared-slice-read-t21 c = search needs
+
+mul-t22 : tie.Need-mul-t22 Inv-loop μ-loop
+mul-t22 c = search needs
+
+shared-slice-read-t24 : tie.Need-shared-slice-read-t24 Inv-loop μ-loop
+shared-slice-read-t24 c = search needs
+
+mul-t25 : tie.Need-mul-t25 Inv-loop μ-loop
+mul-t25 c = search needs
+
+shared-slice-read-t27 : tie.Need-shared-slice-read-t27 Inv-loop μ-loop
+shared-slice-read-t27 c = search needs
+
+mul-fit-line-2 : tie.Need-mul-fit-line-2 Inv-loop μ-loop
+mul-fit-line-2 c = search needs
+
+shared-slice-read-fit-line-2 : tie.Need-shared-slice-read-fit-line-2 Inv-loop μ-loop
+shared-slice-read-fit-line-2 c = search needs
+
+fit-line-requires : tie.Need-fit-line-requires Inv-loop μ-loop
+fit-line-requires c κs = search needs
+
+mul-max-rt : tie.Need-mul-max-rt Inv-loop μ-loop
+mul-max-rt c = search needs
+
+slice-write-max-rt : tie.Need-slice-write-max-rt Inv-loop μ-loop
+slice-write-max-rt c = search needs
+
+mul-slope : tie.Need-mul-slope Inv-loop μ-loop
+mul-slope c = search needs
+
+slice-write-slope : tie.Need-slice-write-slope Inv-loop μ-loop
+slice-write-slope c = search needs
+
+mul-intercept : tie.Need-mul-intercept Inv-loop μ-loop
+mul-intercept c = search needs
+
+slice-write-intercept : tie.Need-slice-write-intercept Inv-loop μ-loop
+slice-write-intercept c = search needs
+
+add-f : tie.Need-add-f Inv-loop μ-loop
+add-f c = search needs
+
+loop-less : tie.Need-loop-less Inv-loop μ-loop
+loop-less c = search needs
+
+loop-again : tie.Need-loop-again Inv-loop μ-loop
+loop-again c =
+    let at = c .before .before .before .before .before .before .before .before in
+    let s = start at in
+    let a = s .args in
+    let f = at .loop .f in
+    let inv = at .loop .inv in
+    let sums = sumsOf (now (a .len)) (now (a .dot)) (now (a .sum-x)) (now (a .sum-y)) in
+    let n = length-sums (now (a .len)) (now (a .dot)) (now (a .sum-x)) (now (a .sum-y)) (length (now (a .max))) (s .pre .0) in
+    let h : f < length (now (a .max)) = omega arith in
+    let is : c .fit-line .result ≡ getD (recordsFrom (now (a .max)) sums (now (a .sx2))) f noRecord =
+    c .fit-line .ensures
+    ∙ ap (λ (t : Sums). lineOf (getD (now (a .max)) f 0) (t .len) (t .dot) (t .«sum_x») (t .«sum_y») (getD (now (a .sx2)) f nan)) (sym (sums-at (now (a .len)) (now (a .dot)) (now (a .sum-x)) (now (a .sum-y)) (length (now (a .max))) (s .pre .0) f h))
+    ∙ sym (from-at (now (a .max)) sums (now (a .sx2)) n (s .pre .1) f h) in (
+      omega arith,
+      simp length-set (inv .1),
+      simp length-set (inv .2),
+      simp length-set (inv .3),
+      upTo-step over f (recordsOf (now (a .max-rt)) (now (a .slope)) (now (a .intercept))) (recordsFrom (now (a .max)) sums (now (a .sx2))) (recordsOf (at .loop .max-rt) (at .loop .slope) (at .loop .intercept)) _ (c .fit-line .result) noRecord noRecord (inv .4)
+          (records-set (at .loop .max-rt) (at .loop .slope) (at .loop .intercept) f (c .fit-line .result)) is (omega (arith, length-from (now (a .max)) sums (now (a .sx2)) n (s .pre .1))),
+    )
+
+same-length : tie.Need-same-length Inv-loop μ-loop
+same-length c = search needs
+
+same-length-2 : tie.Need-same-length-2 Inv-loop μ-loop
+same-length-2 c = search needs
+
+same-length-3 : tie.Need-same-length-3 Inv-loop μ-loop
+same-length-3 c = search needs
+
+returns : tie.Need-returns Inv-loop μ-loop
+returns c =
+    let at = c .before in
+    let s = start at in
+    let a = s .args in
+    let sums = sumsOf (now (a .len)) (now (a .dot)) (now (a .sum-x)) (now (a .sum-y)) in
+    let n = length-sums (now (a .len)) (now (a .dot)) (now (a .sum-x)) (now (a .sum-y)) (length (now (a .max))) (s .pre .0) in
+    let l = length-records (now (a .max-rt)) (now (a .slope)) (now (a .intercept)) (length (now (a .max))) (s .pre .2) (s .pre .3) (s .pre .4) in
+    at .loop .inv .4 ∙ upTo-all _ _ _ _ (omega arith) ∙ zipped-over _ _ (l ∙ sym (length-from (now (a .max)) sums (now (a .sx2)) n (s .pre .1)))
+
+pub store-alignments-spec : {M : Type 1} → statement M
+store-alignments-spec =
+    tie.close
+    (tie.spec
+    Inv-loop
+    μ-loop
+    loop-holds
+    mul-fit-line
+    shared-slice-read-fit-line
+    mul-t16
+    shared-slice-read-t18
+    mul-t19
+    shared-slice-read-t21
+    mul-t22
+    shared-slice-read-t24
+    mul-t25
+    shared-slice-read-t27
+    mul-fit-line-2
+    shared-slice-read-fit-line-2
+    fit-line-requires
+    mul-max-rt
+    slice-write-max-rt
+    mul-slope
+    slice-write-slope
+    mul-intercept
+    slice-write-intercept
+    add-f
+    loop-less
+    loop-again
+    same-length
+    same-length-2
+    same-length-3
+    returns)

@@ -1,0 +1,3 @@
+-- What the functions of `rt_matrix` return. Definitions only.
+pub mod Line
+pub mod Cells

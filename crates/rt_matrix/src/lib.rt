@@ -1,0 +1,147 @@
+// The lines of the alignment, after rt_matrix and global_alignment of sage's retention_alignment.rs. The matrix has a row of cells for each
+// peptide and in it a cell for each file: the peptide's smallest time there, or ABSENT. No room is given for the peptides' means, so a file's
+// sums are kept in a column of local arrays while the peptides go by, and each pass works out the means anew.
+ghost use mathlib.Core.Path.{_≡_};
+ghost use mathlib.Core.List.{map};
+ghost use Prim.Native.Nat.{_*_, _<_, _≤_, _^_};
+ghost use lib.ListN.{length};
+ghost use Rattle.feature.specs.Checks.{maxFiles};
+ghost use Rattle.matrix.specs.Rows.{rowsOf};
+ghost use Rattle.rt_matrix.specs.Line.{finiteOr, lineOf, lines};
+ghost use Rattle.rt_matrix.specs.Cells.{decode, sumsOf, recordsOf, recordsFrom, Sized, Fresh};
+
+mod mean;
+mod squares;
+mod sums;
+
+use feature::MAX_FILES;
+pub use mean::ABSENT;
+use sums::Sums;
+
+// A file's record: its longest time, and its line.
+pub struct Alignment {
+    pub max_rt: f32,
+    pub slope: f32,
+    pub intercept: f32,
+}
+
+// x, or d where x is not finite.
+fn finite_or(x: f64, d: f64) -> f64
+    ensures { λ r. ⌜ r ≡ finiteOr d x ⌝ }
+{
+    if float::is_finite64(x) {
+        return x;
+    }
+    d
+}
+
+// The record of a file with the longest time max, from the sums over its points. The one place that makes a record.
+fn fit_line(max: u32, s: Sums, sx2: f64) -> Alignment
+    ensures { λ r. ⌜ r ≡ lineOf max (s .len) (s .dot) (s .«sum_x») (s .«sum_y») sx2 ⌝ }
+{
+    let n = float::u32_to_f64(s.len);
+    let x_mean = s.sum_x / n;
+    let y_mean = s.sum_y / n;
+    let slope = (s.dot - n * x_mean * y_mean) / sx2;
+    let intercept = y_mean - slope * x_mean;
+    Alignment {
+        max_rt: float::narrow(float::u32_to_f64(max)),
+        slope: float::narrow(finite_or(slope, 1.0)),
+        intercept: float::narrow(finite_or(intercept, 0.0)),
+    }
+}
+
+// Writes the record of each file. No NaN is stored but the one that `narrow` gives.
+fn store_alignments(
+    max: &[u32],
+    len: &[u32],
+    dot: &[f64],
+    sum_x: &[f64],
+    sum_y: &[f64],
+    sx2: &[f64],
+    max_rt: &mut [f32],
+    slope: &mut [f32],
+    intercept: &mut [f32],
+)
+    requires { ⌜ Sized (length (now max)) (now len) (now dot) (now «sum_x») (now «sum_y») × (length (now sx2) ≡ length (now max)) × (length (now «max_rt») ≡ length (now max)) × (length (now slope) ≡ length (now max)) × (length (now intercept) ≡ length (now max)) ⌝ }
+    ensures { λ _. ⌜ recordsOf (now («max_rt» .exit)) (now (slope .exit)) (now (intercept .exit)) ≡ recordsFrom (now (max .entry)) (sumsOf (now (len .entry)) (now (dot .entry)) (now («sum_x» .entry)) (now («sum_y» .entry))) (now (sx2 .entry)) ⌝ }
+{
+    let mut f = 0usize;
+    while f < max.len() {
+        let a = fit_line(
+            max[f],
+            Sums {
+                len: len[f],
+                dot: dot[f],
+                sum_x: sum_x[f],
+                sum_y: sum_y[f],
+            },
+            sx2[f],
+        );
+        max_rt[f] = a.max_rt;
+        slope[f] = a.slope;
+        intercept[f] = a.intercept;
+        f += 1;
+    }
+}
+
+// Writes the record of each file. The slices in between are the files' sums, means and squares as they are before the first peptide.
+fn fit_columns(
+    cells: &[f64],
+    max: &[u32],
+    peptides: usize,
+    len: &mut [u32],
+    dot: &mut [f64],
+    sum_x: &mut [f64],
+    sum_y: &mut [f64],
+    x_mean: &mut [f64],
+    sx2: &mut [f64],
+    max_rt: &mut [f32],
+    slope: &mut [f32],
+    intercept: &mut [f32],
+)
+    requires { ⌜ Fresh (length (now max)) (now len) (now dot) (now «sum_x») (now «sum_y») (now «x_mean») (now sx2) ⌝ }
+    requires { ⌜ (length (now cells) ≡ peptides * length (now max)) × (peptides < 2 ^ 32) × (length (now max) < 2 ^ 32) × (length (now «max_rt») ≡ length (now max)) × (length (now slope) ≡ length (now max)) × (length (now intercept) ≡ length (now max)) ⌝ }
+    ensures { λ _. ⌜ recordsOf (now («max_rt» .exit)) (now (slope .exit)) (now (intercept .exit)) ≡ lines (now (max .entry)) (map (map decode) (rowsOf (length (now (max .entry))) peptides (now (cells .entry)))) ⌝ }
+{
+    sums::add_peptides(cells, max, peptides, len, dot, sum_x, sum_y);
+    squares::x_means(len, sum_x, x_mean);
+    squares::add_peptides(cells, max, peptides, x_mean, sx2);
+    store_alignments(max, len, dot, sum_x, sum_y, sx2, max_rt, slope, intercept);
+}
+
+// Writes the record of each file, from the files' longest times and, peptide by peptide, the smallest time in each file or ABSENT. For
+// `retention_alignment`, which knows the lengths.
+pub fn fit_lines(
+    cells: &[f64],
+    max: &[u32],
+    peptides: usize,
+    max_rt: &mut [f32],
+    slope: &mut [f32],
+    intercept: &mut [f32],
+)
+    requires { ⌜ (length (now cells) ≡ peptides * length (now max)) × (peptides < 2 ^ 32) × (length (now max) ≤ maxFiles) × (length (now «max_rt») ≡ length (now max)) × (length (now slope) ≡ length (now max)) × (length (now intercept) ≡ length (now max)) ⌝ }
+    ensures { λ _. ⌜ recordsOf (now («max_rt» .exit)) (now (slope .exit)) (now (intercept .exit)) ≡ lines (now (max .entry)) (map (map decode) (rowsOf (length (now (max .entry))) peptides (now (cells .entry)))) ⌝ }
+{
+    let files = max.len();
+    let mut len = [0u32; MAX_FILES];
+    let mut dot = [0.0f64; MAX_FILES];
+    let mut sum_x = [0.0f64; MAX_FILES];
+    let mut sum_y = [0.0f64; MAX_FILES];
+    let mut x_mean = [0.0f64; MAX_FILES];
+    let mut sx2 = [1e-8f64; MAX_FILES];
+    fit_columns(
+        cells,
+        max,
+        peptides,
+        &mut len[..files],
+        &mut dot[..files],
+        &mut sum_x[..files],
+        &mut sum_y[..files],
+        &mut x_mean[..files],
+        &mut sx2[..files],
+        max_rt,
+        slope,
+        intercept,
+    );
+}
