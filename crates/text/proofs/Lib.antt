@@ -6,3 +6,4 @@ pub mod Lines
 pub mod Numbers
 pub mod Answers
 pub mod Writing
+pub mod Places
