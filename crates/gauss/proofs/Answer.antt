@@ -11,7 +11,7 @@ use lib.Dec.{leb, eqb}
 use lib.Ieee.{Float}
 use borrow.Author.Tests.{leb-true, eqb-true}
 use Rattle.matrix.specs.Cells.{zero64}
-use Rattle.gauss.specs.Ridge.{Solution, solved, unsolved}
+use Rattle.elimination.specs.Ridge.{Solution, solved, unsolved}
 use Rattle.gauss.specs.Solve.{statusOf, outputs, needed, firstFailed, checked, solutionOf, answerOf, workspaceAfter, solutionAfter, statusFor, Solves, written, Accepted, Searched}
 use Rattle.gauss.specs.declared.SolveAnswer.{SolveAnswer}
 use Rattle.gauss.specs.declared.SolveAnswer.the-variants.{Refused}

@@ -8,8 +8,8 @@ use lib.Dec.{leb, eqb}
 use lib.Ieee.{Float, nan}
 use Rattle.matrix.specs.Rows.{rowsOf}
 use Rattle.matrix.specs.Cells.{zero64}
-use Rattle.gauss.specs.Rows.{augmented}
-use Rattle.gauss.specs.Ridge.{ridges, Solution, solved, unsolved, firstSolved}
+use Rattle.elimination.specs.Rows.{augmented}
+use Rattle.elimination.specs.Ridge.{ridges, Solution, solved, unsolved, firstSolved}
 use Rattle.gauss.specs.declared.SolveAnswer.{SolveAnswer}
 use Rattle.gauss.specs.declared.SolveAnswer.the-variants.{Solved, Unsolved, Refused}
 

@@ -1,37 +1,13 @@
 // Gauss::solve of gauss.rs: Gauss-Jordan elimination with a rising ridge.
-ghost use Prim.Native.Nat.{_+_};
-ghost use Rattle.gauss.specs.Rows.{Shape};
-ghost use Rattle.gauss.specs.Elimination.{Tried};
 ghost use Rattle.gauss.specs.Solve.{solutionOf, Solves, Accepted, Searched};
 
-mod cells;
-mod echelon;
 mod limits;
-mod reduced;
-mod row;
-mod system;
-
-pub use system::right_side;
 
 // What a call of `solve` answers: the ridge that solved the system, that none did, or that the call is refused with this status.
 pub enum SolveAnswer {
     Solved(f64),
     Unsolved,
     Refused(u32),
-}
-
-// One try on the rows [left | right] of n + c cells each: adds the ridge `eps` to the left diagonal, eliminates, and says whether the left side
-// is solved; then the right side holds the solution. For `solve` here and the fit of crate regression.
-pub fn solve_inner(cells: &mut [f64], n: usize, c: usize, eps: f64) -> bool
-    requires { ⌜ Shape n (n + c) (now cells) ⌝ }
-    ensures { λ r. ⌜ Tried n c eps (now (cells .entry)) (now (cells .exit)) r ⌝ }
-{
-    let w = n + c;
-    echelon::fill_zero(cells, n, w, eps);
-    echelon::echelon(cells, n, w);
-    reduced::reduce(cells, n, w);
-    reduced::backfill(cells, n, w);
-    reduced::left_solved(&cells[..], n, w)
 }
 
 // The first ridge that solves the system; the solution is written only then. `cells` is the needed workspace and ends as +0.0.
@@ -48,9 +24,9 @@ fn first_solved(
 {
     let mut eps = 1E-8;
     while eps <= 1.0 {
-        system::augment(cells, left, right, n, c);
-        if solve_inner(cells, n, c, eps) {
-            system::right_side(solution, &cells[..], n, c);
+        elimination::augment(cells, left, right, n, c);
+        if elimination::solve_inner(cells, n, c, eps) {
+            elimination::right_side(solution, &cells[..], n, c);
             matrix::zeros(cells);
             return SolveAnswer::Solved(eps);
         }

@@ -11,13 +11,13 @@ use lib.Ieee.{Float, binary64, ofBits, mul, le, round}
 use denote.Ref.{now}
 use Rattle.matrix.specs.Rows.{rowsOf}
 use Rattle.matrix.specs.Cells.{zero64}
-use Rattle.gauss.specs.Rows.{Shape, augmented}
-use Rattle.gauss.specs.Elimination.{one64, Tried, eliminate, leftSolved}
-use Rattle.gauss.specs.Ridge.{ten64, ridgesFrom, Solution, solved, unsolved, rightSide, firstSolved}
+use Rattle.elimination.specs.Rows.{Shape, augmented}
+use Rattle.elimination.specs.Elimination.{one64, Tried, eliminate, leftSolved}
+use Rattle.elimination.specs.Ridge.{ten64, ridgesFrom, Solution, solved, unsolved, rightSide, firstSolved}
 use Rattle.gauss.specs.Solve.{solutionOf, answerOf, written, Searched}
 use Rattle.gauss.specs.declared.SolveAnswer.{SolveAnswer}
 use Rattle.gauss.specs.declared.SolveAnswer.the-variants.{Solved, Unsolved}
-use Rattle.gauss.proofs.Ridges.{Within, within-first, within-next, fewer, solves-here, solves-later, none-solves}
+use Rattle.elimination.proofs.Ridges.{Within, within-first, within-next, fewer, solves-here, solves-later, none-solves}
 use borrow.Author.Needs.{needs}
 use Rattle.gauss.proofs.first_solved.Statement.{statement}
 use Rattle.gauss.proofs.first_solved.Tie as tie

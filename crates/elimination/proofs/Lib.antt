@@ -1,0 +1,7 @@
+-- Laws that belong to no one function.
+pub mod Made
+pub mod Parts
+pub mod Rows
+pub mod Shape
+pub mod Elimination
+pub mod Ridges

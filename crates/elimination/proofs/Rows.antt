@@ -1,0 +1,57 @@
+-- Rows of a matrix that are replaced: each in a turn of a loop, the first ones, or the later ones. For any cells. Assumes nothing.
+use mathlib.Core.Path.{_≡_, refl, sym, ap, _∙_}
+use mathlib.Core.List.{List, [], _∷_, _++_}
+use Prim.Native.Nat.{ℕ, zero, suc, _+_, _-_, _*_, _≤_, _<_}
+use native.Mathlib.Nat.{le-refl, le-of-eq, le-of-suc-le-suc, not-suc-le-zero, mul-le-mul-right}
+use native.Mathlib.Omega.{arith}
+use lib.ListN.{length, take, drop, set}
+use lib.Seq.{length-take-le}
+use Rattle.matrix.specs.Rows.{rowsOf}
+use Rattle.matrix.proofs.Laws.{row-rowsOf, rowsOf-put-row, rowsOf-append-add, rowsOf-take, take-rowsOf, drop-rowsOf}
+use Rattle.elimination.specs.Rows.{rowOf, augmented}
+use Rattle.elimination.proofs.Made.{made, made-suc}
+
+-- the start of the next row
+pub next-start : (a i w : ℕ) → a ≡ i * w → a + w ≡ (i + 1) * w
+next-start a i w e = omega arith
+
+-- The first i rows are made anew; row i is lent as the part from a on, k cells long, and comes back as r.
+pub row-turn : {A : Type 0} (g : ℕ → List A → List A) (rows : List (List A)) (i m w a k : ℕ) (xs r : List A) → rowsOf w m xs ≡ made g i rows → i < m
+    → length xs ≡ m * w → a ≡ i * w → k ≡ w → length r ≡ w → r ≡ g i (take k (drop a xs))
+    → rowsOf w m (take a xs ++ (r ++ drop k (drop a xs))) ≡ made g (suc i) rows
+row-turn g rows i m w a k xs r inv h l ea ek er e =
+    let part : take k (drop a xs) ≡ rowOf (rowsOf w m xs) i = rw (ea, ek) (sym (row-rowsOf w m i xs h)) in
+    let is : r ≡ g i (rowOf (rowsOf w m xs) i) = e ∙ ap (g i) part in
+    rw (ea, ek) (rowsOf-put-row w m i r xs h (omega arith) er ∙ ap (set (rowsOf w m xs) i) is ∙ rw inv (made-suc g i rows []))
+
+module _ {A : Type 0} (w n i : ℕ) (cells part : List A) (h : i ≤ n) where
+  -- the rows from row i on replaced
+  pub rows-below : length cells ≡ n * w → rowsOf w n (take (i * w) cells ++ part) ≡ take i (rowsOf w n cells) ++ rowsOf w (n - i) part
+  rows-below l =
+      let front : length (take (i * w) cells) ≡ i * w = length-take-le (i * w) cells (omega (arith, mul-le-mul-right {m = i} {n = n} w h)) in
+      ap (λ (k : ℕ). rowsOf w k (take (i * w) cells ++ part)) {x = n} {y = i + (n - i)} (omega arith)
+      ∙ rowsOf-append-add w i (n - i) (take (i * w) cells) part front
+      ∙ ap (λ (t : List (List A)). t ++ rowsOf w (n - i) part) (rowsOf-take w i (i * w) cells (le-refl (i * w)) ∙ sym (take-rowsOf w n i cells h))
+
+  -- the first i rows replaced
+  pub rows-above : length part ≡ i * w → rowsOf w n (part ++ drop (i * w) cells) ≡ rowsOf w i part ++ drop i (rowsOf w n cells)
+  rows-above l =
+      ap (λ (k : ℕ). rowsOf w k (part ++ drop (i * w) cells)) {x = n} {y = i + (n - i)} (omega arith)
+      ∙ rowsOf-append-add w i (n - i) part (drop (i * w) cells) l
+      ∙ ap (λ (t : List (List A)). rowsOf w i part ++ t) (sym (drop-rowsOf w n i cells h))
+
+-- ---- the two sides together
+
+module _ {A : Type 0} where
+  pub length-augmented : (left right : List (List A)) → length left ≡ length right → length (augmented left right) ≡ length left
+  unfolding augmented
+  length-augmented [] right e = refl
+  length-augmented (l ∷ left) [] e = absurd (not-suc-le-zero (le-of-eq e))
+  length-augmented (l ∷ left) (r ∷ right) e = ap suc (length-augmented left right (omega arith))
+
+  pub row-augmented : (left right : List (List A)) (i : ℕ) → i < length left → i < length right → rowOf (augmented left right) i ≡ rowOf left i ++ rowOf right i
+  unfolding augmented
+  row-augmented [] right i h k = absurd (not-suc-le-zero h)
+  row-augmented (l ∷ left) [] i h k = absurd (not-suc-le-zero k)
+  row-augmented (l ∷ left) (r ∷ right) zero h k = refl
+  row-augmented (l ∷ left) (r ∷ right) (suc i) h k = row-augmented left right i (le-of-suc-le-suc h) (le-of-suc-le-suc k)
