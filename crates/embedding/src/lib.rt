@@ -1,0 +1,41 @@
+// The design rows of sage's retention_model.rs and mobility_model.rs: what a fit and a prediction read of a
+// peptide, 69 or 100 columns, so that both models share the loops above.
+ghost use mathlib.Core.Path.{_≡_};
+ghost use mathlib.Core.List.{_++_};
+ghost use Prim.Native.Nat.{_≤_, _<_, _^_};
+ghost use lib.ListN.{length, drop};
+ghost use Rattle.embedding.specs.Design.{orderOf, design};
+
+mod mobility_model;
+mod residues;
+mod retention_model;
+
+// Which columns a row has.
+pub enum Model {
+    Retention,
+    Mobility,
+}
+
+// How many columns a model's row has.
+pub fn order(model: Model) -> usize
+    ensures { λ r. ⌜ r ≡ orderOf model ⌝ }
+{
+    match model {
+        Model::Retention => retention_model::FEATURES,
+        Model::Mobility => mobility_model::FEATURES,
+    }
+}
+
+// Writes the design row of a peptide into the first cells of `row`; the rest is unchanged. Retention
+// reads the letters and the log, mobility the letters, the mass and the charge.
+// For the crates above, which accept peptides of at most 255 letters and hold a row in a part of its order.
+pub fn embed(model: Model, letters: &[u8], log: f64, mass: f32, charge: u8, row: &mut [f64])
+    requires { ⌜ length (now letters) < 2 ^ 32 ⌝ }
+    requires { ⌜ orderOf model ≤ length (now row) ⌝ }
+    ensures { λ _. ⌜ now (row .exit) ≡ design model (now (letters .entry)) log mass charge ++ drop (orderOf model) (now (row .entry)) ⌝ }
+{
+    match model {
+        Model::Retention => retention_model::embed(letters, log, row),
+        Model::Mobility => mobility_model::embed(letters, mass, charge, row),
+    }
+}

@@ -1,0 +1,46 @@
+// The 69 columns of sage's retention_model.rs.
+ghost use mathlib.Core.Path.{_≡_};
+ghost use mathlib.Core.List.{_++_, _∷_, []};
+ghost use Prim.Native.Nat.{_≤_, _<_, _^_};
+ghost use lib.ListN.{length, drop};
+ghost use Rattle.embedding.specs.Design.{chosen, cTerminal, cell, retentionRow};
+ghost use Rattle.embedding.specs.declared.Model.{Model};
+use crate::residues::embed_part;
+use crate::residues::n_terminal;
+use crate::residues::two_before;
+
+pub(crate) const FEATURES: usize = 69;
+
+// The residues at positions c and c + 1, c being the length less 3, that are not N-terminal: the last one is
+// excluded.
+fn c_terminal(letters: &[u8]) -> &[u8]
+    ensures { λ r. ⌜ now r ≡ chosen (cTerminal Model.Retention) (now (letters .entry)) ⌝ }
+{
+    let n = letters.len();
+    if n == 0 {
+        return two_before(letters, 0);
+    }
+    two_before(letters, n - 1)
+}
+
+// Writes the columns after the counts: length, logged mass, intercept.
+fn put_scalars(length: u32, log: f64, row: &mut [f64])
+    requires { ⌜ 3 ≤ lib.ListN.length (now row) ⌝ }
+    ensures { λ _. ⌜ now (row .exit) ≡ (cell length ∷ log ∷ cell 1 ∷ []) ++ drop 3 (now (row .entry)) ⌝ }
+{
+    row[0] = float::u32_to_f64(length);
+    row[1] = log;
+    row[2] = 1.0;
+}
+
+// Writes a peptide's row into the first 69 cells of `row`.
+pub(crate) fn embed(letters: &[u8], log: f64, row: &mut [f64])
+    requires { ⌜ length (now letters) < 2 ^ 32 ⌝ }
+    requires { ⌜ 69 ≤ length (now row) ⌝ }
+    ensures { λ _. ⌜ now (row .exit) ≡ retentionRow (now (letters .entry)) log ++ drop 69 (now (row .entry)) ⌝ }
+{
+    embed_part(letters, &mut row[0..22]);
+    embed_part(n_terminal(letters), &mut row[22..44]);
+    embed_part(c_terminal(letters), &mut row[44..66]);
+    put_scalars(letters.len() as u32, log, &mut row[66..69]);
+}

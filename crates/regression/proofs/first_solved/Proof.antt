@@ -1,0 +1,144 @@
+-- `regression::first_solved` meets its contract. The loop's invariant: the normal equations and beta are as they were, and the first ridge from eps on that
+-- solves them is the first of the whole series. Assumes nothing.
+use mathlib.Core.Path.{_≡_, refl, sym, _∙_, ap}
+use mathlib.Core.Bool.{Bool, true, false}
+use mathlib.Core.List.{List}
+use Prim.Native.Nat.{ℕ, _+_, _/_}
+use native.Mathlib.Nat.{mul-one}
+use native.Mathlib.Omega.{arith}
+use lib.ListN.{length, take, drop, length-take}
+use lib.Ieee.{Float, binary64, mul, le, ofBits, round}
+use denote.Ref.{now}
+use Rattle.matrix.specs.Rows.{rowsOf}
+use Rattle.elimination.specs.Elimination.{one64, tiny64, eliminate}
+use Rattle.elimination.specs.Ridge.{ten64, ridges, ridgesFrom, firstSolved, solved, unsolved, rightSide}
+use Rattle.regression.specs.Solve.{systemLength, kept, Attempted, Found}
+use Rattle.regression.specs.declared.FirstRidge.the-variants.{Solves}
+use Rattle.elimination.proofs.Ridges.{Within, within-first, within-next, fewer, solves-here, solves-later, none-solves}
+use borrow.Author.Needs.{needs}
+use Rattle.regression.proofs.first_solved.Statement.{statement}
+use Rattle.regression.proofs.first_solved.Tie as tie
+
+abbrev Inv-loop : tie.InvT-loop
+Inv-loop workspace₀ d beta₀ half eps₀ workspace beta eps =
+    (length workspace ≡ length workspace₀)
+    × (drop (systemLength d) workspace ≡ drop (systemLength d) workspace₀)
+    × (beta ≡ beta₀)
+    × Within eps
+    × (firstSolved d (kept d workspace₀) (ridgesFrom 16 eps) ≡ firstSolved d (kept d workspace₀) ridges)
+
+abbrev μ-loop : tie.MeasureT-loop
+μ-loop workspace₀ d beta₀ half eps₀ workspace beta eps = length (ridgesFrom 16 eps)
+
+-- a try with the ridge eps
+module _ (d : ℕ) (ws₀ ws ws₁ beta₀ beta : List Float) (eps : Float) (half : ℕ) (inv : Inv-loop ws₀ d beta₀ half tiny64 ws beta eps) (small : le eps one64 ≡ true)
+    (r : Bool) (tried : Attempted d eps ws ws₁ r) where
+  rows : kept d ws ≡ kept d ws₀
+  rows = ap (rowsOf (d + 1) d) (inv .1)
+
+  -- it solved the system
+  found : (beta₁ : List Float) → half ≡ systemLength d → r ≡ true
+      → beta₁ ≡ rightSide d (rowsOf (d + 1) d (take half ws₁))
+      → Found (firstSolved d (kept d ws₀) ridges) beta₀ beta₁ (Solves eps)
+  found beta₁ h t copied =
+      let right : beta₁ ≡ rightSide d (eliminate d eps (kept d ws₀)) = copied ∙ rw (h, tried .system, rows) in
+      let e : firstSolved d (kept d ws₀) ridges ≡ solved eps (rightSide d (eliminate d eps (kept d ws₀))) =
+      sym (inv .4) ∙ solves-here d (kept d ws₀) eps (inv .3) small (rw rows at (sym (tried .answer) ∙ t)) in
+      record { answer = rw e; beta = rw e right }
+
+  -- it did not
+  goes-on : length ws₁ ≡ length ws → r ≡ false → Inv-loop ws₀ d beta₀ half tiny64 ws₁ beta (mul binary64 eps ten64)
+  goes-on len t = (
+    len ∙ inv .0,
+    tried .rest ∙ inv .1,
+    inv .2,
+    within-next eps (inv .3) small,
+    sym (solves-later d (kept d ws₀) eps (inv .3) small (rw rows at (sym (tried .answer) ∙ t))) ∙ inv .4,
+  )
+
+loop-holds : tie.Need-loop-holds Inv-loop μ-loop
+unfolding ofBits round
+loop-holds c = (refl, refl, refl, within-first, refl)
+
+attempt-requires : tie.Need-attempt-requires Inv-loop μ-loop
+attempt-requires c κs =
+    let p = c .before .before .before .before .before .pre in
+    record { order = p .0 .order; count = c .before .before .loop .inv .0 ∙ p .0 .count }
+
+slice-reshare-prefix-right-side : tie.Need-slice-reshare-prefix-right-side Inv-loop μ-loop
+slice-reshare-prefix-right-side c = search needs
+
+slice-aggregate-right-side : tie.Need-slice-aggregate-right-side Inv-loop μ-loop
+slice-aggregate-right-side c = simp length-take (omega arith)
+
+right-side-requires : tie.Need-right-side-requires Inv-loop μ-loop
+right-side-requires c κs =
+    let a = c .before .before .before .before .before .before .before .before .before .before .before in
+    let l = c .before .before .before .before .before .before .before .before .loop in
+    (ap length (l .inv .2) ∙ a .pre .1 ∙ sym (mul-one _), simp length-take (omega arith))
+
+same-length : tie.Need-same-length Inv-loop μ-loop
+same-length c = search needs
+
+same-length-2 : tie.Need-same-length-2 Inv-loop μ-loop
+same-length-2 c =
+    c .before .before .right-side .kept .0 ∙ ap length (c .before .before .before .before .before .before .before .before .before .before .before .loop .inv .2)
+
+returns : tie.Need-returns Inv-loop μ-loop
+unfolding ofBits
+returns c =
+    let a = c .before .before .before .before .before .before .before .before .before .before .before .before .before .before in
+    let l = c .before .before .before .before .before .before .before .before .before .before .before .loop in
+    let test = c .before .before .before .before .before .before .before .before .before .before .loop-test in
+    let done = c .before .before .before .before .before .before .before .before .attempt in
+    found (a .args .d) (now (a .args .workspace)) (l .workspace) (done .last .0) (now (a .args .beta)) (l .beta) (l .eps) (length (now (a .args .workspace)) / 2)
+    (l .inv) (test .taken) (done .result) (done .ensures) (c .before .before .right-side .last .0) (omega arith) (c .before .before .before .before .before .if1 .taken) (c .before .before .right-side .ensures)
+
+loop-less : tie.Need-loop-less Inv-loop μ-loop
+unfolding ofBits
+loop-less c =
+    fewer (c .before .before .before .before .before .before .loop .eps) (c .before .before .before .before .before .before .loop .inv .3) (c .before .before .before .before .before .loop-test .taken)
+
+loop-again : tie.Need-loop-again Inv-loop μ-loop
+unfolding ofBits
+loop-again c =
+    let a = c .before .before .before .before .before .before .before .before .before in
+    let l = c .before .before .before .before .before .before .loop in
+    let test = c .before .before .before .before .before .loop-test in
+    let done = c .before .before .before .attempt in
+    goes-on (a .args .d) (now (a .args .workspace)) (l .workspace) (done .last .0) (now (a .args .beta)) (l .beta) (l .eps) (length (now (a .args .workspace)) / 2)
+    (l .inv) (test .taken) (done .result) (done .ensures) (done .kept .0) (c .if1 .left)
+
+same-length-3 : tie.Need-same-length-3 Inv-loop μ-loop
+same-length-3 c = search needs
+
+same-length-4 : tie.Need-same-length-4 Inv-loop μ-loop
+same-length-4 c = search needs
+
+returns-2 : tie.Need-returns-2 Inv-loop μ-loop
+unfolding ofBits
+returns-2 c =
+    let a = c .before .before .before .before in
+    let l = c .before .loop in
+    let e : firstSolved (a .args .d) (kept (a .args .d) (now (a .args .workspace))) ridges ≡ unsolved = sym (l .inv .4) ∙ none-solves _ _ (l .eps) (c .loop-test .left) in
+    record { answer = rw e; beta = rw e (l .inv .2) }
+
+pub first-solved-spec : {M : Type 1} → statement M
+first-solved-spec =
+    tie.close
+    (tie.spec
+    Inv-loop
+    μ-loop
+    loop-holds
+    attempt-requires
+    slice-reshare-prefix-right-side
+    slice-aggregate-right-side
+    right-side-requires
+    same-length
+    same-length-2
+    returns
+    loop-less
+    loop-again
+    same-length-3
+    same-length-4
+    returns-2)

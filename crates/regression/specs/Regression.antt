@@ -1,0 +1,146 @@
+-- Linear regression over a list of samples by the normal equations. Every product, sum and quotient is IEEE 754's on binary64, rounded once,
+-- and every sum goes over the samples in their order, from 0.0. Definitions only.
+use mathlib.Core.List.{List, [], _∷_, _++_, map, zipWith}
+use mathlib.Core.Option.{Option, some, none}
+use Prim.Native.Nat.{ℕ, zero, suc, _+_}
+use lib.ListN.{length, getD}
+use lib.IntN.{pos}
+use lib.Ieee.{Float, nan, binary64, add, sub, mul, div, ofInt}
+use Rattle.matrix.specs.Cells.{zero64}
+use Rattle.elimination.specs.Rows.{zipped}
+use Rattle.elimination.specs.Elimination.{one64}
+use Rattle.elimination.specs.Ridge.{Solution, solved, unsolved, firstSolved, ridges}
+use Rattle.regression.specs.declared.Sums.{Sums}
+use Rattle.regression.specs.declared.FitOutcome.{FitOutcome}
+use Rattle.regression.specs.declared.FitOutcome.the-variants.{Solved, NoTrainingRows, NotSolved}
+
+-- a training row: its design row and its target
+pub record Sample : Type 0 where
+  pub row : List Float
+  pub y : Float
+
+-- the design row with the target as its last cell
+abbrev pub extended : Sample → List Float
+extended s = s .row ++ s .y ∷ []
+
+-- the xs added to a, from the first to the last
+unfoldable pub sumFrom : Float → List Float → Float
+sumFrom a [] = a
+sumFrom a (x ∷ xs) = sumFrom (add binary64 a x) xs
+
+-- the sum of a quantity of each sample
+abbrev pub total : (Sample → Float) → List Sample → Float
+total f ss = sumFrom zero64 (map f ss)
+
+-- f 0, f 1, .., f (n - 1)
+unfoldable pub tabulate : {A : Type 0} → ℕ → (ℕ → A) → List A
+tabulate zero f = []
+tabulate (suc n) f = f 0 ∷ tabulate n (λ i. f (suc i))
+
+-- ---- the normal equations, of order D
+
+-- column j of a sample's design row
+abbrev pub column : ℕ → Sample → Float
+column j s = getD (s .row) j nan
+
+-- the sum of x_j × x_k
+abbrev pub cov : List Sample → ℕ → ℕ → Float
+cov ss j k = total (λ s. mul binary64 (column j s) (column k s)) ss
+
+-- the sum of x_j × y
+abbrev pub rhs : List Sample → ℕ → Float
+rhs ss j = total (λ s. mul binary64 (column j s) (s .y)) ss
+
+-- D rows: row j has cov j 0, .., cov j (D - 1) and then the right side's cell
+unfoldable pub normal : ℕ → List Sample → List (List Float)
+normal D ss = tabulate D (λ j. tabulate D (cov ss j) ++ rhs ss j ∷ [])
+
+-- ---- one sample more
+
+-- d plus c times s
+abbrev pub plusScaled : Float → Float → Float → Float
+plusScaled c d s = add binary64 d (mul binary64 c s)
+
+-- to row j the extended row times its cell j
+abbrev pub addRow : List (List Float) → List Float → List (List Float)
+addRow rows ext = zipped (λ row x. zipped (plusScaled x) row ext) rows ext
+
+-- ---- the target's sums
+
+abbrev pub noSums : Sums
+noSums = record { n = 0; «sum_y» = zero64; «sum_y2» = zero64 }
+
+-- one target more
+abbrev pub plusTarget : Sums → Float → Sums
+plusTarget t y =
+    record { n = t .n + 1; «sum_y» = add binary64 (t .«sum_y») y; «sum_y2» = add binary64 (t .«sum_y2») (mul binary64 y y) }
+
+-- the number of samples, the sum of y and the sum of y × y
+abbrev pub sumsOf : List Sample → Sums
+sumsOf ss = record { n = length ss; «sum_y» = total (λ s. s .y) ss; «sum_y2» = total (λ s. mul binary64 (s .y) (s .y)) ss }
+
+-- ---- predictions and r2
+
+-- the sum of row_k × beta_k in column order, as far as both reach
+unfoldable pub dot : List Float → List Float → Float
+dot row beta = sumFrom zero64 (zipWith (mul binary64) row beta)
+
+-- prediction less target, and its square
+abbrev pub residual : List Float → Sample → Float
+residual beta s = sub binary64 (dot (s .row) beta) (s .y)
+
+abbrev pub squaredError : List Float → Sample → Float
+squaredError beta s = mul binary64 (residual beta s) (residual beta s)
+
+-- a running sum of squared errors with a sample's added
+abbrev pub plusError : Float → List Float → List Float → Float → Float
+plusError sum beta row y = add binary64 sum (squaredError beta (record { row = row; y = y }))
+
+abbrev pub sse : List Float → List Sample → Float
+sse beta ss = total (squaredError beta) ss
+
+-- sum_y / n
+abbrev pub yMean : Sums → Float
+yMean t = div binary64 (t .«sum_y») (ofInt binary64 (pos (t .n)))
+
+-- sum_y2 - n × mean × mean, left to right
+abbrev pub yVar : Sums → Float
+yVar t = sub binary64 (t .«sum_y2») (mul binary64 (mul binary64 (ofInt binary64 (pos (t .n))) (yMean t)) (yMean t))
+
+-- 1 - sse / y_var
+unfoldable pub r2Of : Sums → Float → Float
+r2Of t errors = sub binary64 one64 (div binary64 errors (yVar t))
+
+-- ---- the fit
+
+-- what a fit answers, and its coefficients
+pub record Fit : Type 0 where
+  pub outcome : FitOutcome
+  pub beta : List Float
+
+-- of the samples and the solution of their normal equations
+abbrev pub fitBy : List Sample → Solution → Fit
+fitBy ss (solved ridge beta) = record { outcome = Solved ridge (r2Of (sumsOf ss) (sse beta ss)) (length ss); beta = beta }
+fitBy ss unsolved = record { outcome = NotSolved; beta = [] }
+
+-- of order D: the coefficients are the solution for the first ridge of the series that solves the normal equations
+unfoldable pub fitOf : ℕ → List Sample → Fit
+fitOf D [] = record { outcome = NoTrainingRows; beta = [] }
+fitOf D (s ∷ ss) = fitBy (s ∷ ss) (firstSolved D (normal D (s ∷ ss)) ridges)
+
+-- the number of document 01's table for each answer
+abbrev pub statusOf : FitOutcome → ℕ
+statusOf (Solved ridge r2 n) = 0
+statusOf NoTrainingRows = 8
+statusOf NotSolved = 9
+
+-- ridge, r2 and n, which only a solved fit has
+pub record Values : Type 0 where
+  pub ridge : Float
+  pub r2 : Float
+  pub n : ℕ
+
+abbrev pub valuesOf : FitOutcome → Option Values
+valuesOf (Solved ridge r2 n) = some (record { ridge = ridge; r2 = r2; n = n })
+valuesOf NoTrainingRows = none
+valuesOf NotSolved = none

@@ -1,0 +1,185 @@
+// Streaming least squares: the normal equations are summed row by row, without the design matrix, and
+// solved with the first ridge that does. The steps here are called by the loops of both models, for any
+// order D. The equations are D rows of D + 1 cells, [cov | b] row by row.
+ghost use mathlib.Core.Path.{_≡_};
+ghost use mathlib.Core.List.{_++_};
+ghost use Prim.Native.Nat.{_+_, _-_, _*_, _≤_, _<_};
+ghost use lib.ListN.{length, drop};
+ghost use Rattle.matrix.specs.Rows.{rowsOf, flat};
+ghost use Rattle.elimination.specs.Rows.{zipped};
+ghost use Rattle.elimination.specs.Ridge.{firstSolved, ridges};
+ghost use Rattle.regression.specs.Solve.{Attempted, Found, SolvedBy, Workspace, kept};
+ghost use Rattle.regression.specs.Regression.{
+  addRow,
+  dot,
+  noSums,
+  plusScaled,
+  plusTarget,
+  r2Of,
+  plusError,
+};
+
+// What a fit answers: the ridge that solved the normal equations with r2 and the number of training
+// rows, that there is no training row, or that no ridge solves them.
+pub enum FitOutcome {
+    Solved { ridge: f64, r2: f64, n: u32 },
+    NoTrainingRows,
+    NotSolved,
+}
+
+// The first ridge of the series that solves a system, if one does.
+pub enum FirstRidge {
+    Solves(f64),
+    None,
+}
+
+// Adds `factor` times `src` to `dst`, cell by cell. For this crate and the models: `src` is at least as
+// long as `dst`.
+pub fn add_scaled(dst: &mut [f64], src: &[f64], factor: f64)
+    requires { ⌜ length (now dst) ≤ length (now src) ⌝ }
+    ensures { λ _. ⌜ now (dst .exit) ≡ zipped (plusScaled factor) (now (dst .entry)) (now (src .entry)) ⌝ }
+{
+    let mut k = 0usize;
+    while k < dst.len() {
+        dst[k] = dst[k] + factor * src[k];
+        k += 1;
+    }
+}
+
+// Adds a sample to the normal equations: `ext` is its design row and then its target, and row j of `acc`
+// gains `ext[j]` times `ext`. For the models: `acc` has one row less than it has columns.
+pub fn add_row(acc: &mut [f64], ext: &[f64])
+    requires { ⌜ length (now acc) ≡ (length (now ext) - 1) * length (now ext) ⌝ }
+    ensures { λ _. ⌜ now (acc .exit) ≡ flat (addRow (rowsOf (length (now (ext .entry))) (length (now (ext .entry)) - 1) (now (acc .entry))) (now (ext .entry))) ⌝ }
+{
+    let w = ext.len();
+    let mut start = 0usize;
+    let mut j = 0usize;
+    while j + 1 < w {
+        let end = start + w;
+        add_scaled(&mut acc[start..end], ext, ext[j]);
+        start = end;
+        j += 1;
+    }
+}
+
+// The number of samples, the sum of their targets and of the targets' squares.
+pub struct Sums {
+    pub n: u32,
+    pub sum_y: f64,
+    pub sum_y2: f64,
+}
+
+impl Sums {
+    // Of no sample.
+    pub fn zero() -> Sums
+        ensures { λ r. ⌜ r ≡ noSums ⌝ }
+    {
+        Sums {
+            n: 0,
+            sum_y: 0.0,
+            sum_y2: 0.0,
+        }
+    }
+
+    // With one target more. For the models, whose rows are at most 1,048,576.
+    pub fn add(self, y: f64) -> Sums
+        requires { ⌜ self .n < 1048576 ⌝ }
+        ensures { λ r. ⌜ r ≡ plusTarget self y ⌝ }
+    {
+        Sums {
+            n: self.n + 1,
+            sum_y: self.sum_y + y,
+            sum_y2: self.sum_y2 + y * y,
+        }
+    }
+}
+
+// The prediction: the sum of `row[k] * beta[k]` in column order, as far as both reach.
+pub fn predict(row: &[f64], beta: &[f64]) -> f64
+    ensures { λ r. ⌜ r ≡ dot (now (row .entry)) (now (beta .entry)) ⌝ }
+{
+    let mut sum = 0.0;
+    let mut k = 0usize;
+    while k < row.len() {
+        if beta.len() <= k {
+            return sum;
+        }
+        sum = sum + row[k] * beta[k];
+        k += 1;
+    }
+    sum
+}
+
+// `sse` with the square of a sample's prediction less its target added.
+pub fn squared_error(sse: f64, row: &[f64], beta: &[f64], y: f64) -> f64
+    ensures { λ r. ⌜ r ≡ plusError sse (now (beta .entry)) (now (row .entry)) y ⌝ }
+{
+    let residual = predict(row, beta) - y;
+    sse + residual * residual
+}
+
+// The share of the targets' variance that a fit with this sum of squared errors explains. It may be
+// negative, infinite or a NaN.
+pub fn r2(sums: Sums, sse: f64) -> f64
+    ensures { λ r. ⌜ r ≡ r2Of sums sse ⌝ }
+{
+    let nf = float::u32_to_f64(sums.n);
+    let y_mean = sums.sum_y / nf;
+    let y_var = sums.sum_y2 - nf * y_mean * y_mean;
+    float::canonical64(1.0 - sse / y_var)
+}
+
+// Copies the second half of the cells over the first.
+fn restore(cells: &mut [f64], half: usize)
+    requires { ⌜ length (now cells) ≡ half + half ⌝ }
+    ensures { λ _. ⌜ now (cells .exit) ≡ drop half (now (cells .entry)) ++ drop half (now (cells .entry)) ⌝ }
+{
+    let mut i = 0usize;
+    let mut from = half;
+    while i < half {
+        cells[i] = cells[from];
+        from += 1;
+        i += 1;
+    }
+}
+
+// One try: eliminates a copy of the normal equations with the ridge `eps` and says whether that solves
+// them.
+fn attempt(workspace: &mut [f64], d: usize, eps: f64) -> bool
+    requires { ⌜ Workspace d (now workspace) ⌝ }
+    ensures { λ r. ⌜ Attempted d eps (now (workspace .entry)) (now (workspace .exit)) r ⌝ }
+{
+    let half = workspace.len() / 2;
+    restore(workspace, half);
+    elimination::solve_inner(&mut workspace[..half], d, 1, eps)
+}
+
+// Tries the ridges 1E-8, 1E-7 and so on up to 1.0.
+fn first_solved(workspace: &mut [f64], d: usize, beta: &mut [f64]) -> FirstRidge
+    requires { ⌜ Workspace d (now workspace) × (length (now beta) ≡ d) ⌝ }
+    ensures { λ r. ⌜ Found (firstSolved d (kept d (now (workspace .entry))) ridges) (now (beta .entry)) (now (beta .exit)) r ⌝ }
+{
+    let half = workspace.len() / 2;
+    let mut eps = 1E-8;
+    while eps <= 1.0 {
+        if attempt(workspace, d, eps) {
+            elimination::right_side(beta, &workspace[..half], d, 1);
+            return FirstRidge::Solves(eps);
+        }
+        eps = eps * 10.0;
+    }
+    FirstRidge::None
+}
+
+// Solves the normal equations in the second half of `workspace` with the first ridge that does: `beta`
+// gets the coefficients, or keeps what it held where none does. The workspace ends as +0.0. For the
+// models, whose order d is at most 100.
+pub fn solve(workspace: &mut [f64], d: usize, beta: &mut [f64]) -> FirstRidge
+    requires { ⌜ Workspace d (now workspace) × (length (now beta) ≡ d) ⌝ }
+    ensures { λ r. ⌜ SolvedBy (firstSolved d (kept d (now (workspace .entry))) ridges) (now (workspace .entry)) (now (workspace .exit)) (now (beta .entry)) (now (beta .exit)) r ⌝ }
+{
+    let ridge = first_solved(workspace, d, beta);
+    matrix::zeros(workspace);
+    ridge
+}
