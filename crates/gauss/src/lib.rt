@@ -7,7 +7,7 @@ mod limits;
 pub enum SolveAnswer {
     Solved(f64),
     Unsolved,
-    Refused(u32),
+    Refused(u8),
 }
 
 // The first ridge that solves the system; the solution is written only then. `cells` is the needed workspace and ends as +0.0.

@@ -50,7 +50,7 @@ pub(crate) fn check(
     c: usize,
     workspace: usize,
     solution: usize,
-) -> u32
+) -> u8
     ensures { λ r. ⌜ r ≡ checked left right n c workspace solution ⌝ }
 {
     if !sides_fit(left, right, n, c) {
