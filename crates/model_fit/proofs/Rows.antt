@@ -1,0 +1,107 @@
+-- Laws of the rows: the query and the sample of a row by its columns, and the samples of the training rows among the first so many rows, as the
+-- loops go through them. Assumes nothing.
+use mathlib.Core.Path.{_≡_, refl, sym, ap, _∙_}
+use mathlib.Core.Bool.{Bool, true, false, cond}
+use mathlib.Core.List.{List, [], _∷_, _++_, map, headD, tail, append-nil}
+use Prim.Native.Nat.{ℕ, zero, suc, _≤_, _<_}
+use native.Mathlib.Nat.{le-of-suc-le-suc, not-suc-le-zero}
+use native.Mathlib.Omega.{arith}
+use lib.IntN.{pos}
+use lib.Ieee.{nan}
+use lib.ListN.{length, getD, take, length-take}
+use lib.Seq.{take-all}
+use Rattle.feature.specs.Feature.{trains, mask, kept}
+use Rattle.feature.proofs.Training.{length-kept, length-mask, mask-at}
+use Rattle.embedding.specs.Design.{orderOf}
+use Rattle.embedding.specs.declared.Model.{Model}
+use Rattle.embedding.specs.declared.Model.the-variants.{Retention, Mobility}
+use Rattle.regression.specs.Regression.{Sample}
+use Rattle.model_fit.specs.Input.{Input, Query, queryOf, queries}
+use Rattle.model_fit.specs.Samples.{sampleOf, samples, trainingSamples}
+use Rattle.model_fit.specs.Shared.{Checked}
+use Rattle.model_fit.proofs.Laws.{length-zipWith, getD-zipWith, kept-suc}
+
+-- a design row has at most 100 columns
+pub order-max : (model : Model) → orderOf model ≤ 100
+order-max Retention = omega arith
+order-max Mobility = omega arith
+
+-- ---- queries
+
+pub length-queries : (peptides charges : List ℕ) → length (queries peptides charges) ≡ length peptides
+unfolding queries
+length-queries [] charges = refl
+length-queries (p ∷ peptides) charges = ap suc (length-queries peptides (tail charges))
+
+pub getD-queries : (peptides charges : List ℕ) (k : ℕ) (d : Query) → k < length peptides → getD (queries peptides charges) k d ≡ queryOf (getD peptides k 0) (getD charges k 0)
+unfolding queries headD
+getD-queries [] charges k d h = absurd (not-suc-le-zero h)
+getD-queries (p ∷ peptides) [] zero d h = refl
+getD-queries (p ∷ peptides) (z ∷ charges) zero d h = refl
+getD-queries (p ∷ peptides) [] (suc k) d h = getD-queries peptides [] k d (le-of-suc-le-suc h)
+getD-queries (p ∷ peptides) (z ∷ charges) (suc k) d h = getD-queries peptides charges k d (le-of-suc-le-suc h)
+
+-- of two columns of one list of rows, and of one without charges
+pub queries-map : {R : Type 0} (peptide charge : R → ℕ) (rows : List R) → queries (map peptide rows) (map charge rows) ≡ map (λ r. queryOf (peptide r) (charge r)) rows
+unfolding queries headD
+queries-map peptide charge [] = refl
+queries-map peptide charge (r ∷ rows) = ap (λ (t : List Query). queryOf (peptide r) (charge r) ∷ t) (queries-map peptide charge rows)
+
+pub queries-bare : {R : Type 0} (peptide : R → ℕ) (rows : List R) → queries (map peptide rows) [] ≡ map (λ r. queryOf (peptide r) 0) rows
+unfolding queries headD
+queries-bare peptide [] = refl
+queries-bare peptide (r ∷ rows) = ap (λ (t : List Query). queryOf (peptide r) 0 ∷ t) (queries-bare peptide rows)
+
+-- ---- samples
+
+-- of the row at k
+abbrev pub sampleAt : Model → Input → ℕ → Sample
+sampleAt model i k = sampleOf model (i .table) (queryOf (getD (i .peptides) k 0) (getD (i .charges) k 0)) (getD (i .observed) k nan)
+
+-- of the training rows among the first k
+abbrev pub seen : Model → Input → ℕ → List Sample
+seen model i k = kept (take k (mask (i .labels) (i .qs))) (take k (samples model i))
+
+module _ (model : Model) (i : Input) (c : Checked i) where
+  length-marks : length (mask (i .labels) (i .qs)) ≡ length (i .peptides)
+  length-marks = length-mask (i .labels) (i .qs) (c .qs-long ∙ sym (c .labels-long)) ∙ c .labels-long
+
+  length-samples : length (samples model i) ≡ length (i .peptides)
+  length-samples =
+      let q = length-queries (i .peptides) (i .charges) in
+      length-zipWith (sampleOf model (i .table)) (queries (i .peptides) (i .charges)) (i .observed) (omega (arith, c .observed-long)) ∙ q
+
+  sample-is : (k : ℕ) (d : Sample) → k < length (i .peptides) → getD (samples model i) k d ≡ sampleAt model i k
+  sample-is k d h =
+      let q = length-queries (i .peptides) (i .charges) in
+      let e = c .observed-long in
+      getD-zipWith (sampleOf model (i .table)) (queries (i .peptides) (i .charges)) (i .observed) k (queryOf 0 0) nan d (omega arith) (omega arith)
+      ∙ ap (λ (r : Query). sampleOf model (i .table) r (getD (i .observed) k nan)) (getD-queries (i .peptides) (i .charges) k (queryOf 0 0) h)
+
+  -- the row at k trains, or it doesn't
+  module _ (k : ℕ) (h : k < length (i .peptides)) where
+    seen-suc : (b : Bool) → trains (getD (i .labels) k (pos 0)) (getD (i .qs) k nan) ≡ b → seen model i (suc k) ≡ seen model i k ++ cond b (sampleAt model i k ∷ []) []
+    seen-suc b t =
+        let m = length-marks in
+        let s = length-samples in
+        let l = c .labels-long in
+        let q = c .qs-long in
+        let e : getD (mask (i .labels) (i .qs)) k false ≡ b = mask-at (i .labels) (i .qs) k (omega arith) (omega arith) ∙ t in
+        kept-suc k (mask (i .labels) (i .qs)) (samples model i) (sampleAt model i k) (omega arith) (omega arith) ∙ rw (e, sample-is k (sampleAt model i k) h)
+
+    pub seen-trains : trains (getD (i .labels) k (pos 0)) (getD (i .qs) k nan) ≡ true → seen model i (suc k) ≡ seen model i k ++ sampleAt model i k ∷ []
+    seen-trains t = seen-suc true t
+
+    pub seen-outside : trains (getD (i .labels) k (pos 0)) (getD (i .qs) k nan) ≡ false → seen model i (suc k) ≡ seen model i k
+    seen-outside t = seen-suc false t ∙ append-nil (seen model i k)
+
+  -- all rows
+  pub seen-all : (k : ℕ) → length (i .peptides) ≤ k → seen model i k ≡ trainingSamples model i
+  seen-all k h =
+      let m = length-marks in
+      let s = length-samples in
+      rw (take-all k (mask (i .labels) (i .qs)) (omega arith), take-all k (samples model i) (omega arith))
+
+  -- no more are seen than were looked at
+  pub seen-few : (k : ℕ) → length (seen model i k) ≤ k
+  seen-few k = omega (arith, length-kept (take k (mask (i .labels) (i .qs))) (take k (samples model i)), length-take k (samples model i))

@@ -1,0 +1,87 @@
+-- Laws of the status: its value by the values of the checks, and what a call that is accepted has passed. Assumes nothing.
+use mathlib.Core.Path.{_≡_, refl}
+use mathlib.Core.Bool.{Bool, true, false, cond}
+use mathlib.Core.List.{List, [], _∷_}
+use Prim.Native.Nat.{ℕ, _<_}
+use native.Mathlib.Omega.{arith}
+use lib.Dec.{ltb}
+use lib.ListN.{length, getD}
+use borrow.Author.Tests.{ltb-true}
+use Rattle.feature.specs.Checks.{every, lengthsAgree, withinRowLimits, allBelow}
+use Rattle.feature.specs.Status.{accepted, badLengths, pastLimit, tooShort, badOffsets, badLetter, badPeptide}
+use Rattle.feature.proofs.Laws.{and-true, every-at, below-at, length-at, row-limits}
+use Rattle.peptide.specs.Table.{Table, offsetsRight, lettersRight}
+use Rattle.peptide.proofs.Laws.{offsets-peptide}
+use Rattle.embedding.specs.declared.Model.{Model}
+use Rattle.embedding.specs.declared.Model.the-variants.{Retention, Mobility}
+use Rattle.model_fit.specs.Input.{Input, columnsAgree, lengthsRight, checks, firstFailing, statusOf}
+use Rattle.model_fit.specs.Shared.{Listed, Numbered, Checked}
+
+-- the status where the checks have these values
+pub status-is : (model : Model) (i : Input) (room : Bool) (a b c d e f : Bool)
+    → lengthsRight model i ≡ a
+    → withinRowLimits (length (i .peptides)) (length (i .table .masses)) ≡ b
+    → room ≡ c
+    → offsetsRight (length (i .table .masses)) (length (i .table .letters)) (i .table .offsets) ≡ d
+    → lettersRight (i .table .letters) ≡ e
+    → allBelow (length (i .table .masses)) (i .peptides) ≡ f
+    → firstFailing ((badLengths, a) ∷ (pastLimit, b) ∷ (tooShort, c) ∷ (badOffsets, d) ∷ (badLetter, e) ∷ (badPeptide, f) ∷ []) ≡ statusOf model i room
+unfolding statusOf
+status-is model i room a b c d e f one two three seven six five = rw (one, two, three, seven, six, five)
+
+-- where no check fails, each passed
+passed : (b : Bool) (later status : ℕ) → 0 < status → cond b later status ≡ 0 → (b ≡ true) × (later ≡ 0)
+passed true later status h e = (refl, e)
+passed false later status h e = absurd (omega arith)
+
+passed-all : (cs : List (ℕ × Bool)) → every (λ (c : ℕ × Bool). ltb 0 (c .0)) cs ≡ true → firstFailing cs ≡ accepted → every (λ (c : ℕ × Bool). c .1) cs ≡ true
+unfolding every
+passed-all [] n e = refl
+passed-all (c ∷ cs) n e =
+    let s = and-true (ltb 0 (c .0)) (every (λ (c : ℕ × Bool). ltb 0 (c .0)) cs) n in
+    let t = passed (c .1) (firstFailing cs) (c .0) (ltb-true 0 (c .0) (s .0)) e in
+    rw (t .0) (passed-all cs (s .1) (t .1))
+
+-- the columns' lengths
+record Long (i : Input) : Type 0 where
+  labels : length (i .labels) ≡ length (i .peptides)
+  qs : length (i .qs) ≡ length (i .peptides)
+  observed : length (i .observed) ≡ length (i .peptides)
+
+long : (model : Model) (i : Input) → lengthsRight model i ≡ true → Long i
+unfolding columnsAgree
+long Retention i e =
+    let n : ℕ = length (i .peptides) in
+    let ls : List ℕ = length (i .labels) ∷ length (i .qs) ∷ length (i .observed) ∷ [] in
+    let s : lengthsAgree n ls ≡ true = and-true (lengthsAgree n ls) (lengthsAgree (length (i .table .masses)) (length (i .table .logs) ∷ [])) e .0 in
+    record { labels = length-at n ls 0 s (omega arith); qs = length-at n ls 1 s (omega arith); observed = length-at n ls 2 s (omega arith) }
+long Mobility i e =
+    let n : ℕ = length (i .peptides) in
+    let ls : List ℕ = length (i .labels) ∷ length (i .qs) ∷ length (i .charges) ∷ length (i .observed) ∷ [] in
+    record { labels = length-at n ls 0 e (omega arith); qs = length-at n ls 1 e (omega arith); observed = length-at n ls 3 e (omega arith) }
+
+-- an accepted call has passed all checks
+module _ (model : Model) (i : Input) (room : Bool) (accept : statusOf model i room ≡ accepted) where
+  check-at : (k : ℕ) → k < 6 → getD (checks model i room) k (0, true) .1 ≡ true
+  unfolding statusOf every
+  check-at k h = every-at (λ (c : ℕ × Bool). c .1) (checks model i room) k (0, true) (passed-all (checks model i room) refl accept) h
+
+  pub accepted-room : room ≡ true
+  accepted-room = check-at 2 (omega arith)
+
+  pub accepted-checked : Checked i
+  accepted-checked =
+      let l = long model i (check-at 0 (omega arith)) in
+      record {
+        labels-long = l .labels;
+        qs-long = l .qs;
+        observed-long = l .observed;
+        rows-max = row-limits (length (i .peptides)) (length (i .table .masses)) (check-at 1 (omega arith)) .rows-max;
+        numbered = record { offsets = check-at 3 (omega arith); below = check-at 5 (omega arith) };
+      }
+
+-- each row's peptide is in the table
+pub listed : (t : Table) (peptides : List ℕ) (k : ℕ) → Numbered t peptides → k < length peptides → Listed t (getD peptides k 0)
+listed t peptides k n h =
+    let l : getD peptides k 0 < length (t .masses) = below-at (length (t .masses)) peptides k (n .below) h in
+    record { has = offsets-peptide (t .letters) (t .offsets) (length (t .masses)) (getD peptides k 0) (n .offsets) l; weighed = l }

@@ -1,0 +1,24 @@
+-- `model_fit::design::log_at` meets its contract. Assumes nothing.
+use mathlib.Core.Path.{sym}
+use denote.Ref.{now}
+use lib.Ieee.{nan, div, ofBits}
+use lib.ListN.{List·getD-eq-default}
+use borrow.Author.Needs.{needs}
+use Rattle.model_fit.proofs.design.log_at.Statement.{statement}
+use Rattle.model_fit.proofs.design.log_at.Tie as tie
+
+mul-result : tie.Need-mul-result
+mul-result c = search needs
+
+shared-slice-read-result : tie.Need-shared-slice-read-result
+shared-slice-read-result c = search needs
+
+returns : tie.Need-returns
+returns c = search needs
+
+returns-2 : tie.Need-returns-2
+unfolding div ofBits
+returns-2 c = sym (List·getD-eq-default (now (c .before .args .logs)) nan (c .if1 .left))
+
+pub log-at-spec : {M : Type 1} → statement M
+log-at-spec = tie.close (tie.spec mul-result shared-slice-read-result returns returns-2)

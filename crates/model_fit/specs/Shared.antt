@@ -1,0 +1,51 @@
+-- What the functions of the fit are passed and leave. Definitions only.
+use mathlib.Core.Path.{_≡_}
+use mathlib.Core.Bool.{true}
+use mathlib.Core.List.{List, _++_}
+use Prim.Native.Nat.{ℕ, _≤_, _<_}
+use lib.Ieee.{Float}
+use lib.ListN.{length, drop, replicate}
+use Rattle.matrix.specs.Cells.{zero64}
+use Rattle.matrix.specs.Rows.{flat}
+use Rattle.feature.specs.Checks.{allBelow, maxRows}
+use Rattle.peptide.specs.Table.{Table, HasPeptide, offsetsRight}
+use Rattle.embedding.specs.Design.{orderOf}
+use Rattle.embedding.specs.declared.Model.{Model}
+use Rattle.regression.specs.Regression.{Fit, normal, sumsOf}
+use Rattle.regression.specs.declared.Sums.{Sums}
+use Rattle.regression.specs.declared.FitOutcome.{FitOutcome}
+use Rattle.model_fit.specs.Input.{Input}
+use Rattle.model_fit.specs.Samples.{trainingSamples}
+
+-- the old cells with the new ones over the first of them
+abbrev pub overwritten : {A : Type 0} → (new old : List A) → List A
+overwritten new old = new ++ drop (length new) old
+
+-- the table has that peptide
+pub record Listed (t : Table) (p : ℕ) : Type 0 where
+  pub has : HasPeptide (t .letters) (t .offsets) p
+  pub weighed : p < length (t .masses)
+
+-- the offsets are right, and each number is below the peptides
+pub record Numbered (t : Table) (peptides : List ℕ) : Type 0 where
+  pub offsets : offsetsRight (length (t .masses)) (length (t .letters)) (t .offsets) ≡ true
+  pub below : allBelow (length (t .masses)) peptides ≡ true
+
+-- what the checks say of an input
+pub record Checked (i : Input) : Type 0 where
+  pub labels-long : length (i .labels) ≡ length (i .peptides)
+  pub qs-long : length (i .qs) ≡ length (i .peptides)
+  pub observed-long : length (i .observed) ≡ length (i .peptides)
+  pub rows-max : length (i .peptides) ≤ maxRows
+  pub numbered : Numbered (i .table) (i .peptides)
+
+-- the normal equations and the sums of the training rows
+pub record Accumulated (model : Model) (i : Input) (acc : List Float) (r : Sums) : Type 0 where
+  pub equations : acc ≡ flat (normal (orderOf model) (trainingSamples model i))
+  pub sums : r ≡ sumsOf (trainingSamples model i)
+
+-- a fit on a workspace and a coefficient list of just the needed cells
+pub record FittedBy (fit : Fit) (workspace₀ workspace₁ beta₀ beta₁ : List Float) (r : FitOutcome) : Type 0 where
+  pub outcome : r ≡ fit .outcome
+  pub workspace : workspace₁ ≡ replicate (length workspace₀) zero64
+  pub beta : beta₁ ≡ overwritten (fit .beta) beta₀

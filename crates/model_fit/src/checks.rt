@@ -1,0 +1,97 @@
+// The checks of a call, in document 01's order, for both models and for fits and predictions.
+ghost use mathlib.Core.Path.{_≡_};
+ghost use Rattle.embedding.specs.Design.{orderOf};
+ghost use Rattle.model_fit.specs.Input.{inputOf, columnsAgree, fitRoom, workspaceCells, statusOf};
+use embedding::Model;
+
+// The cells of a fit's workspace (document 01's work room).
+pub fn workspace_cells(model: Model) -> usize
+    ensures { λ r. ⌜ r ≡ workspaceCells (orderOf model) ⌝ }
+{
+    match model {
+        Model::Retention => 9660,
+        Model::Mobility => 20200,
+    }
+}
+
+// Whether a workspace and a coefficient list of these lengths are long enough for a fit.
+pub fn fit_room(model: Model, workspace: usize, beta: usize) -> bool
+    ensures { λ r. ⌜ r ≡ fitRoom model workspace beta ⌝ }
+{
+    if workspace < workspace_cells(model) {
+        return false;
+    }
+    embedding::order(model) <= beta
+}
+
+// Whether the columns of these lengths that belong together have one length: check 1.
+fn columns_agree(
+    model: Model,
+    rows: usize,
+    labels: usize,
+    qs: usize,
+    charges: usize,
+    observed: usize,
+    peptides: usize,
+    logs: usize,
+) -> bool
+    ensures { λ r. ⌜ r ≡ columnsAgree model rows labels qs charges observed peptides logs ⌝ }
+{
+    match model {
+        Model::Retention => {
+            if !feature::same_lengths(rows, labels, qs, observed, rows) {
+                return false;
+            }
+            logs == peptides
+        }
+        Model::Mobility => feature::same_lengths(rows, labels, qs, charges, observed),
+    }
+}
+
+// The status of a call: 1, 2, 3 (not `room`), 7, 6, 5 or 0.
+pub fn check(
+    model: Model,
+    peptide: &[u32],
+    label: &[i32],
+    q: &[f32],
+    charge: &[u8],
+    observed: &[f32],
+    letters: &[u8],
+    offsets: &[u32],
+    masses: &[f32],
+    logs: &[f64],
+    room: bool,
+) -> u8
+    ensures { λ r. ⌜ r ≡ statusOf model (inputOf (now (peptide .entry)) (now (label .entry)) (now (q .entry)) (now (charge .entry)) (now (observed .entry)) (now (letters .entry)) (now (offsets .entry)) (now (masses .entry)) (now (logs .entry))) room ⌝ }
+{
+    let rows = peptide.len();
+    let peptides = masses.len();
+    if !columns_agree(
+        model,
+        rows,
+        label.len(),
+        q.len(),
+        charge.len(),
+        observed.len(),
+        peptides,
+        logs.len(),
+    ) {
+        return feature::BAD_LENGTHS;
+    }
+    if !feature::row_limits(rows, peptides) {
+        return feature::PAST_LIMIT;
+    }
+    if !room {
+        return feature::TOO_SHORT;
+    }
+    if !peptide::check_offsets(offsets, peptides, letters.len()) {
+        return feature::BAD_OFFSETS;
+    }
+    if !peptide::check_letters(letters) {
+        return feature::BAD_LETTER;
+    }
+    if !feature::all_below(peptide, peptides) {
+        return feature::BAD_PEPTIDE;
+    }
+    feature::ACCEPTED
+}

@@ -1,0 +1,220 @@
+// The fit: one pass over the training rows for the normal equations, the solver, and one pass for the squared errors.
+ghost use mathlib.Core.Path.{_≡_};
+ghost use mathlib.Core.List.{List, [], _∷_, _++_};
+ghost use Prim.Native.Nat.{_<_};
+ghost use lib.IntN.{pos};
+ghost use lib.Ieee.{nan};
+ghost use lib.ListN.{length, getD, replicate};
+ghost use Rattle.matrix.specs.Cells.{zero64};
+ghost use Rattle.matrix.specs.Rows.{flat};
+ghost use Rattle.feature.specs.Feature.{trains};
+ghost use Rattle.embedding.specs.Design.{orderOf};
+ghost use Rattle.regression.specs.Regression.{Sample, normal, dot, sse};
+ghost use Rattle.regression.specs.Solve.{systemLength, Workspace};
+ghost use Rattle.model_fit.specs.Input.{inputOf, tableOf, queryOf};
+ghost use Rattle.model_fit.specs.Samples.{designOf, sampleOf, trainingSamples, fitOn};
+ghost use Rattle.model_fit.specs.Shared.{Listed, Checked, Accumulated, FittedBy};
+use crate::design::charge_at;
+use crate::design::embed_peptide;
+use embedding::Model;
+use matrix::PeptideIx;
+use regression::FirstRidge;
+use regression::FitOutcome;
+use regression::Sums;
+
+// Whether row i trains.
+fn trains_at(label: &[i32], q: &[f32], i: usize) -> bool
+    requires { ⌜ i < length (now label) ⌝ }
+    requires { ⌜ i < length (now q) ⌝ }
+    ensures { λ r. ⌜ r ≡ trains (getD (now (label .entry)) i (pos 0)) (getD (now (q .entry)) i nan) ⌝ }
+{
+    feature::trains(label[i], q[i])
+}
+
+// Adds a row's sample to the normal equations: what holds those of some samples then holds those of one more.
+fn add_sample(
+    model: Model,
+    peptide: PeptideIx,
+    charge: u8,
+    letters: &[u8],
+    offsets: &[u32],
+    masses: &[f32],
+    logs: &[f64],
+    y: f64,
+    equations: &mut [f64],
+)
+    requires { ⌜ Listed (tableOf (now letters) (now offsets) (now masses) (now logs)) (peptide .0) ⌝ }
+    requires { ⌜ length (now equations) ≡ systemLength (orderOf model) ⌝ }
+    ensures { λ _. ⌜ ((ss : List Sample) → now (equations .entry) ≡ flat (normal (orderOf model) ss) → now (equations .exit) ≡ flat (normal (orderOf model) (ss ++ sampleOf model (tableOf (now (letters .entry)) (now (offsets .entry)) (now (masses .entry)) (now (logs .entry))) (queryOf (peptide .0) charge) y ∷ []))) ⌝ }
+{
+    let d = embedding::order(model);
+    let mut row = [0.0f64; 101];
+    embed_peptide(
+        model,
+        peptide,
+        charge,
+        letters,
+        offsets,
+        masses,
+        logs,
+        &mut row,
+    );
+    row[d] = y;
+    regression::add_row(equations, &row[..d + 1]);
+}
+
+// Sums the normal equations of the training rows into `equations`, which holds +0.0.
+fn accumulate(
+    model: Model,
+    peptide: &[u32],
+    label: &[i32],
+    q: &[f32],
+    charge: &[u8],
+    observed: &[f32],
+    letters: &[u8],
+    offsets: &[u32],
+    masses: &[f32],
+    logs: &[f64],
+    equations: &mut [f64],
+) -> Sums
+    requires { ⌜ Checked (inputOf (now peptide) (now label) (now q) (now charge) (now observed) (now letters) (now offsets) (now masses) (now logs)) ⌝ }
+    requires { ⌜ now equations ≡ replicate (systemLength (orderOf model)) zero64 ⌝ }
+    ensures { λ r. ⌜ Accumulated model (inputOf (now (peptide .entry)) (now (label .entry)) (now (q .entry)) (now (charge .entry)) (now (observed .entry)) (now (letters .entry)) (now (offsets .entry)) (now (masses .entry)) (now (logs .entry))) (now (equations .exit)) r ⌝ }
+{
+    let mut sums = Sums::zero();
+    for i in 0..peptide.len() {
+        if !trains_at(label, q, i) {
+            continue;
+        }
+        let y = float::widen(observed[i]);
+        let ix = PeptideIx(peptide[i]);
+        let z = charge_at(charge, i);
+        add_sample(model, ix, z, letters, offsets, masses, logs, y, equations);
+        sums = sums.add(y);
+    }
+    sums
+}
+
+// The prediction for a peptide of the table, before it is clamped.
+pub fn predict_peptide(
+    model: Model,
+    peptide: PeptideIx,
+    charge: u8,
+    letters: &[u8],
+    offsets: &[u32],
+    masses: &[f32],
+    logs: &[f64],
+    beta: &[f64],
+) -> f64
+    requires { ⌜ Listed (tableOf (now letters) (now offsets) (now masses) (now logs)) (peptide .0) ⌝ }
+    ensures { λ r. ⌜ r ≡ dot (designOf model (tableOf (now (letters .entry)) (now (offsets .entry)) (now (masses .entry)) (now (logs .entry))) (queryOf (peptide .0) charge)) (now (beta .entry)) ⌝ }
+{
+    let d = embedding::order(model);
+    let mut row = [0.0f64; 100];
+    embed_peptide(
+        model,
+        peptide,
+        charge,
+        letters,
+        offsets,
+        masses,
+        logs,
+        &mut row,
+    );
+    regression::predict(&row[..d], beta)
+}
+
+// The sum of the squared errors of the training rows.
+fn sum_squares(
+    model: Model,
+    peptide: &[u32],
+    label: &[i32],
+    q: &[f32],
+    charge: &[u8],
+    observed: &[f32],
+    letters: &[u8],
+    offsets: &[u32],
+    masses: &[f32],
+    logs: &[f64],
+    beta: &[f64],
+) -> f64
+    requires { ⌜ Checked (inputOf (now peptide) (now label) (now q) (now charge) (now observed) (now letters) (now offsets) (now masses) (now logs)) ⌝ }
+    ensures { λ r. ⌜ r ≡ sse (now (beta .entry)) (trainingSamples model (inputOf (now (peptide .entry)) (now (label .entry)) (now (q .entry)) (now (charge .entry)) (now (observed .entry)) (now (letters .entry)) (now (offsets .entry)) (now (masses .entry)) (now (logs .entry)))) ⌝ }
+{
+    let mut sse = 0.0;
+    for i in 0..peptide.len() {
+        if !trains_at(label, q, i) {
+            continue;
+        }
+        let y = float::widen(observed[i]);
+        let ix = PeptideIx(peptide[i]);
+        let z = charge_at(charge, i);
+        let residual = predict_peptide(model, ix, z, letters, offsets, masses, logs, beta) - y;
+        sse = sse + residual * residual;
+    }
+    sse
+}
+
+// Fits the model to the training rows. `workspace` and `beta` have just the cells that it needs: the workspace ends as +0.0, and `beta` gets the
+// coefficients of a fit that is solved.
+pub fn fit_checked(
+    model: Model,
+    peptide: &[u32],
+    label: &[i32],
+    q: &[f32],
+    charge: &[u8],
+    observed: &[f32],
+    letters: &[u8],
+    offsets: &[u32],
+    masses: &[f32],
+    logs: &[f64],
+    workspace: &mut [f64],
+    beta: &mut [f64],
+) -> FitOutcome
+    requires { ⌜ Checked (inputOf (now peptide) (now label) (now q) (now charge) (now observed) (now letters) (now offsets) (now masses) (now logs)) ⌝ }
+    requires { ⌜ Workspace (orderOf model) (now workspace) ⌝ }
+    requires { ⌜ length (now beta) ≡ orderOf model ⌝ }
+    ensures { λ r. ⌜ FittedBy (fitOn model (inputOf (now (peptide .entry)) (now (label .entry)) (now (q .entry)) (now (charge .entry)) (now (observed .entry)) (now (letters .entry)) (now (offsets .entry)) (now (masses .entry)) (now (logs .entry)))) (now (workspace .entry)) (now (workspace .exit)) (now (beta .entry)) (now (beta .exit)) r ⌝ }
+{
+    let half = workspace.len() / 2;
+    matrix::zeros(workspace);
+    let sums = accumulate(
+        model,
+        peptide,
+        label,
+        q,
+        charge,
+        observed,
+        letters,
+        offsets,
+        masses,
+        logs,
+        &mut workspace[half..],
+    );
+    if sums.n == 0 {
+        return FitOutcome::NoTrainingRows;
+    }
+    let d = embedding::order(model);
+    let first = regression::solve(workspace, d, beta);
+    let FirstRidge::Solves(ridge) = first else {
+        return FitOutcome::NotSolved;
+    };
+    let sse = sum_squares(
+        model,
+        peptide,
+        label,
+        q,
+        charge,
+        observed,
+        letters,
+        offsets,
+        masses,
+        logs,
+        beta,
+    );
+    FitOutcome::Solved {
+        ridge,
+        r2: regression::r2(sums, sse),
+        n: sums.n,
+    }
+}
