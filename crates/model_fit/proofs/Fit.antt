@@ -81,6 +81,7 @@ module _ (D : ℕ) (ss : List Sample) (cells₀ cells : List Float) (room : leng
         outcome = sym (ap (λ (x : Fit). x .outcome) f);
         workspace = summed ∙ rw (n, room) (sym (halves (systemLength D) zero64));
         beta = sym (ap (λ (x : Fit). overwritten (x .beta) beta) f);
+        long = λ ridge r2 n told. let z : _≡_ {A = ℕ} 0 1 = cc in absurd (omega arith);
       }
 
   module _ (some : 0 < length ss) (cells₁ beta₀ beta₁ : List Float) where
@@ -99,6 +100,7 @@ module _ (D : ℕ) (ss : List Sample) (cells₀ cells : List Float) (room : leng
           outcome = sym (ap (λ (x : Fit). x .outcome) f);
           workspace = zeroed (s .workspace);
           beta = (rw u at (s .beta)) ∙ sym (ap (λ (x : Fit). overwritten (x .beta) beta₀) f);
+          long = λ ridge r2 n told. let z : _≡_ {A = ℕ} 0 1 = cc in absurd (omega arith);
         }
 
     -- a ridge solves it
@@ -112,4 +114,5 @@ module _ (D : ℕ) (ss : List Sample) (cells₀ cells : List Float) (room : leng
           outcome = rw (er, ee, es) (sym (ap (λ (x : Fit). x .outcome) f));
           workspace = zeroed (s .workspace);
           beta = sym (overwrite-whole beta₁ beta₀ long) ∙ sym (ap (λ (x : Fit). overwritten (x .beta) beta₀) f);
+          long = λ e₁ e₂ n told. ap (λ (x : Fit). length (x .beta)) f ∙ long;
         }

@@ -34,7 +34,7 @@ passed : (b : Bool) (later status : ℕ) → 0 < status → cond b later status 
 passed true later status h e = (refl, e)
 passed false later status h e = absurd (omega arith)
 
-passed-all : (cs : List (ℕ × Bool)) → every (λ (c : ℕ × Bool). ltb 0 (c .0)) cs ≡ true → firstFailing cs ≡ accepted → every (λ (c : ℕ × Bool). c .1) cs ≡ true
+pub passed-all : (cs : List (ℕ × Bool)) → every (λ (c : ℕ × Bool). ltb 0 (c .0)) cs ≡ true → firstFailing cs ≡ accepted → every (λ (c : ℕ × Bool). c .1) cs ≡ true
 unfolding every
 passed-all [] n e = refl
 passed-all (c ∷ cs) n e =

@@ -14,6 +14,7 @@ use Rattle.embedding.specs.declared.Model.{Model}
 use Rattle.regression.specs.Regression.{Fit, normal, sumsOf}
 use Rattle.regression.specs.declared.Sums.{Sums}
 use Rattle.regression.specs.declared.FitOutcome.{FitOutcome}
+use Rattle.regression.specs.declared.FitOutcome.the-variants.{Solved}
 use Rattle.model_fit.specs.Input.{Input}
 use Rattle.model_fit.specs.Samples.{trainingSamples}
 
@@ -49,3 +50,5 @@ pub record FittedBy (fit : Fit) (workspace₀ workspace₁ beta₀ beta₁ : Lis
   pub outcome : r ≡ fit .outcome
   pub workspace : workspace₁ ≡ replicate (length workspace₀) zero64
   pub beta : beta₁ ≡ overwritten (fit .beta) beta₀
+  -- a fit that is solved has a coefficient for each of them
+  pub long : (ridge r2 : Float) (n : ℕ) → r ≡ Solved ridge r2 n → length (fit .beta) ≡ length beta₀

@@ -32,7 +32,7 @@ fn log_at(logs: &[f64], p: usize) -> f64
 }
 
 // Writes the design row of a peptide of the table into the first cells of `row`.
-pub fn embed_peptide(
+pub(crate) fn embed_peptide(
     model: Model,
     peptide: PeptideIx,
     charge: u8,

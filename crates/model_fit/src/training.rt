@@ -87,7 +87,8 @@ fn accumulate(
             continue;
         }
         let y = float::widen(observed[i]);
-        let ix = PeptideIx(peptide[i]);
+        let p = peptide[i];
+        let ix = PeptideIx(p);
         let z = charge_at(charge, i);
         add_sample(model, ix, z, letters, offsets, masses, logs, y, equations);
         sums = sums.add(y);
@@ -95,7 +96,7 @@ fn accumulate(
     sums
 }
 
-// The prediction for a peptide of the table, before it is clamped.
+// The prediction for a peptide of the table, before it is clamped. For this crate and the models, which have checked the table.
 pub fn predict_peptide(
     model: Model,
     peptide: PeptideIx,
@@ -142,13 +143,14 @@ fn sum_squares(
     ensures { λ r. ⌜ r ≡ sse (now (beta .entry)) (trainingSamples model (inputOf (now (peptide .entry)) (now (label .entry)) (now (q .entry)) (now (charge .entry)) (now (observed .entry)) (now (letters .entry)) (now (offsets .entry)) (now (masses .entry)) (now (logs .entry)))) ⌝ }
 {
     let mut sse = 0.0;
-    for i in 0..peptide.len() {
-        if !trains_at(label, q, i) {
+    for k in 0..peptide.len() {
+        if !trains_at(label, q, k) {
             continue;
         }
-        let y = float::widen(observed[i]);
-        let ix = PeptideIx(peptide[i]);
-        let z = charge_at(charge, i);
+        let y = float::widen(observed[k]);
+        let p = peptide[k];
+        let ix = PeptideIx(p);
+        let z = charge_at(charge, k);
         let residual = predict_peptide(model, ix, z, letters, offsets, masses, logs, beta) - y;
         sse = sse + residual * residual;
     }
@@ -156,7 +158,7 @@ fn sum_squares(
 }
 
 // Fits the model to the training rows. `workspace` and `beta` have just the cells that it needs: the workspace ends as +0.0, and `beta` gets the
-// coefficients of a fit that is solved.
+// coefficients of a fit that is solved. For the models, which have checked the rows and the table.
 pub fn fit_checked(
     model: Model,
     peptide: &[u32],

@@ -51,6 +51,10 @@ passed s =
 abbrev turn : tie.After-add-sample-arg Inv-loop μ-loop → tie.In-loop Inv-loop μ-loop
 turn d = d .before .before .before .before .before .before .before
 
+-- a turn's row is one of the rows
+inside : (t : tie.In-loop Inv-loop μ-loop) → t .before .loop .i < length (now (start (t .before) .args .peptide))
+inside t = omega (arith, t .loop-test .taken)
+
 -- one training row more
 one-more : (model : Model) (i : Input) (k z : ℕ) (y : Float) (equations : List Float) (before after : Sums) → Checked i → k < length (i .peptides)
     → trains (getD (i .labels) k (pos 0)) (getD (i .qs) k nan) ≡ true
@@ -94,7 +98,7 @@ loop-again c =
     let i : Input = passed s in
     let k = at .loop .i in
     let t : trains (getD (i .labels) k (pos 0)) (getD (i .qs) k nan) ≡ false = sym (c .before .trains-at .ensures) ∙ not-true _ (c .if1 .taken) in
-    let n : seen model i (k + 1) ≡ seen model i k = rw (add-one k) (seen-outside model i (s .pre .0) k (c .before .before .loop-test .taken) t) in
+    let n : seen model i (k + 1) ≡ seen model i k = rw (add-one k) (seen-outside model i (s .pre .0) k (inside (c .before .before)) t) in
     (omega arith, at .loop .inv .1 ∙ ap (λ (x : List Sample). flat (normal (orderOf model) x)) (sym n), at .loop .inv .2 ∙ ap sumsOf (sym n), at .loop .inv .3)
 
 mul-widen : tie.Need-mul-widen Inv-loop μ-loop
@@ -106,11 +110,11 @@ shared-slice-read-widen c = omega (arith, start (c .before .before .before .befo
 widen-requires : tie.Need-widen-requires Inv-loop μ-loop
 widen-requires c κs = search needs
 
-mul-t20 : tie.Need-mul-t20 Inv-loop μ-loop
-mul-t20 c = search needs
+mul-p : tie.Need-mul-p Inv-loop μ-loop
+mul-p c = search needs
 
-shared-slice-read-t24 : tie.Need-shared-slice-read-t24 Inv-loop μ-loop
-shared-slice-read-t24 c = search needs
+shared-slice-read-p : tie.Need-shared-slice-read-p Inv-loop μ-loop
+shared-slice-read-p c = search needs
 
 charge-at-requires : tie.Need-charge-at-requires Inv-loop μ-loop
 charge-at-requires c κs = search needs
@@ -119,7 +123,7 @@ add-sample-requires : tie.Need-add-sample-requires Inv-loop μ-loop
 add-sample-requires c κs =
     let t = turn c in
     let s = start (t .before) in
-    (listed _ _ _ (s .pre .0 .numbered) (t .loop-test .taken), t .before .loop .inv .3 ∙ ap length (s .pre .1) ∙ length-replicate _ _)
+    (listed _ _ _ (s .pre .0 .numbered) (inside t), t .before .loop .inv .3 ∙ ap length (s .pre .1) ∙ length-replicate _ _)
 
 add-requires : tie.Need-add-requires Inv-loop μ-loop
 add-requires c κs =
@@ -127,15 +131,15 @@ add-requires c κs =
     let l = t .before .loop in
     let s = start (t .before) in
     let n : l .sums .n ≡ length (seen (s .args .model) (passed s) (l .i)) = ap (λ (x : Sums). x .n) (l .inv .2) in
-    omega (arith, n, seen-few (s .args .model) (passed s) (s .pre .0) (l .i), t .loop-test .taken, s .pre .0 .rows-max)
+    omega (arith, n, seen-few (s .args .model) (passed s) (s .pre .0) (l .i), inside t, s .pre .0 .rows-max)
 
 add-i-2 : tie.Need-add-i-2 Inv-loop μ-loop
 add-i-2 c =
     let t = turn (c .before .before .before .before) in
-    omega (arith, t .loop-test .taken, start (t .before) .pre .0 .rows-max)
+    omega (arith, inside t, start (t .before) .pre .0 .rows-max)
 
 loop-less-2 : tie.Need-loop-less-2 Inv-loop μ-loop
-loop-less-2 c = omega (arith, turn (c .before .before .before .before) .loop-test .taken)
+loop-less-2 c = omega (arith, inside (turn (c .before .before .before .before)))
 
 loop-again-2 : tie.Need-loop-again-2 Inv-loop μ-loop
 loop-again-2 c =
@@ -148,9 +152,9 @@ loop-again-2 c =
     let y = d .before .before .before .widen in
     let test = d .before .before .before .before .before in
     let trained : trains (getD (i .labels) (l .i) (pos 0)) (getD (i .qs) (l .i) nan) ≡ true = sym (test .before .trains-at .ensures) ∙ not-false _ (test .if1 .left) in
-    let step = one-more (s .args .model) i (l .i) (z .result) (y .result) _ (l .sums) (c .add .result) (s .pre .0) (t .loop-test .taken) trained
+    let step = one-more (s .args .model) i (l .i) (z .result) (y .result) _ (l .sums) (c .add .result) (s .pre .0) (inside t) trained
     (z .ensures) (y .ensures) (c .before .before .before .add-sample .ensures (seen (s .args .model) i (l .i)) (l .inv .1)) (l .inv .2) (c .add .ensures) in
-    (omega (arith, t .loop-test .taken), step .0, step .1, c .before .before .before .add-sample .kept .1 .1 .1 .1 .1 .1 .1 .1 .0 ∙ l .inv .3)
+    (omega (arith, inside t), step .0, step .1, c .before .before .before .add-sample .kept .1 .1 .1 .1 .1 .1 .1 .1 .0 ∙ l .inv .3)
 
 same-length : tie.Need-same-length Inv-loop μ-loop
 same-length c = c .before .loop .inv .3
@@ -177,8 +181,8 @@ accumulate-spec =
     mul-widen
     shared-slice-read-widen
     widen-requires
-    mul-t20
-    shared-slice-read-t24
+    mul-p
+    shared-slice-read-p
     charge-at-requires
     add-sample-requires
     add-requires

@@ -1,5 +1,5 @@
 -- `model_fit::training::sum_squares` meets its contract. The loop's invariant: the sum is that of the training rows among the
--- first i. Assumes nothing.
+-- first k. Assumes nothing.
 use mathlib.Core.Path.{_≡_, sym, ap, _∙_}
 use mathlib.Core.Bool.{true, false}
 use mathlib.Core.List.{List, [], _∷_, _++_}
@@ -25,11 +25,11 @@ use Rattle.model_fit.proofs.training.sum_squares.Statement.{statement}
 use Rattle.model_fit.proofs.training.sum_squares.Tie as tie
 
 abbrev Inv-loop : tie.InvT-loop
-Inv-loop model peptide label q charge observed letters offsets masses logs beta sse₀ i₀ i-end sse i =
-    (i ≤ length peptide) × (sse ≡ sseOf beta (seen model (inputOf peptide label q charge observed letters offsets masses logs) i))
+Inv-loop model peptide label q charge observed letters offsets masses logs beta sse₀ k₀ k-end sse k =
+    (k ≤ length peptide) × (sse ≡ sseOf beta (seen model (inputOf peptide label q charge observed letters offsets masses logs) k))
 
 abbrev μ-loop : tie.MeasureT-loop
-μ-loop model peptide label q charge observed letters offsets masses logs beta sse₀ i₀ i-end sse i = length peptide - i
+μ-loop model peptide label q charge observed letters offsets masses logs beta sse₀ k₀ k-end sse k = length peptide - k
 
 -- where the function begins, and what it was passed
 abbrev start : tie.At-loop Inv-loop μ-loop → tie.Start Inv-loop μ-loop
@@ -43,6 +43,10 @@ passed s =
 -- the start of a turn at a training row
 abbrev turn : tie.After-charge-at Inv-loop μ-loop → tie.In-loop Inv-loop μ-loop
 turn d = d .before .before .before .before .before .before
+
+-- a turn's row is one of the rows
+inside : (t : tie.In-loop Inv-loop μ-loop) → t .before .loop .k < length (now (start (t .before) .args .peptide))
+inside t = omega (arith, t .loop-test .taken)
 
 -- one training row more
 one-more : (model : Model) (i : Input) (beta : List Float) (k z : ℕ) (x y before : Float) → Checked i → k < length (i .peptides)
@@ -64,8 +68,8 @@ loop-holds c = (search needs, sym (sse-nil (now (c .before .before .before .befo
 trains-at-requires : tie.Need-trains-at-requires Inv-loop μ-loop
 trains-at-requires c κs = let s = start (c .before) in (omega (arith, s .pre .labels-long), omega (arith, s .pre .qs-long))
 
-add-i : tie.Need-add-i Inv-loop μ-loop
-add-i c = search needs
+add-k : tie.Need-add-k Inv-loop μ-loop
+add-k c = search needs
 
 loop-less : tie.Need-loop-less Inv-loop μ-loop
 loop-less c = search needs
@@ -76,9 +80,9 @@ loop-again c =
     let s = start at in
     let model = s .args .model in
     let i : Input = passed s in
-    let k = at .loop .i in
+    let k = at .loop .k in
     let t : trains (getD (i .labels) k (pos 0)) (getD (i .qs) k nan) ≡ false = sym (c .before .trains-at .ensures) ∙ not-true _ (c .if1 .taken) in
-    let n : seen model i (k + 1) ≡ seen model i k = rw (add-one k) (seen-outside model i (s .pre) k (c .before .before .loop-test .taken) t) in
+    let n : seen model i (k + 1) ≡ seen model i k = rw (add-one k) (seen-outside model i (s .pre) k (inside (c .before .before)) t) in
     (omega arith, at .loop .inv .1 ∙ ap (sseOf (now (s .args .beta))) (sym n))
 
 mul-widen : tie.Need-mul-widen Inv-loop μ-loop
@@ -90,20 +94,20 @@ shared-slice-read-widen c = omega (arith, start (c .before .before .before .befo
 widen-requires : tie.Need-widen-requires Inv-loop μ-loop
 widen-requires c κs = search needs
 
-mul-t21 : tie.Need-mul-t21 Inv-loop μ-loop
-mul-t21 c = search needs
+mul-p : tie.Need-mul-p Inv-loop μ-loop
+mul-p c = search needs
 
-shared-slice-read-t25 : tie.Need-shared-slice-read-t25 Inv-loop μ-loop
-shared-slice-read-t25 c = search needs
+shared-slice-read-p : tie.Need-shared-slice-read-p Inv-loop μ-loop
+shared-slice-read-p c = search needs
 
 charge-at-requires : tie.Need-charge-at-requires Inv-loop μ-loop
 charge-at-requires c κs = search needs
 
 predict-peptide-requires : tie.Need-predict-peptide-requires Inv-loop μ-loop
-predict-peptide-requires c κs = let t = turn c in listed _ _ _ (start (t .before) .pre .numbered) (t .loop-test .taken)
+predict-peptide-requires c κs = let t = turn c in listed _ _ _ (start (t .before) .pre .numbered) (inside t)
 
-add-i-2 : tie.Need-add-i-2 Inv-loop μ-loop
-add-i-2 c = search needs
+add-k-2 : tie.Need-add-k-2 Inv-loop μ-loop
+add-k-2 c = search needs
 
 loop-less-2 : tie.Need-loop-less-2 Inv-loop μ-loop
 loop-less-2 c = search needs
@@ -117,16 +121,16 @@ loop-again-2 c =
     let i : Input = passed s in
     let y = d .before .before .widen in
     let test = d .before .before .before .before in
-    let trained : trains (getD (i .labels) (l .i) (pos 0)) (getD (i .qs) (l .i) nan) ≡ true = sym (test .before .trains-at .ensures) ∙ not-false _ (test .if1 .left) in (
-      omega (arith, t .loop-test .taken),
-      one-more (s .args .model) i (now (s .args .beta)) (l .i) (d .charge-at .result) (c .predict-peptide .result) (y .result) (l .sse) (s .pre) (t .loop-test .taken) trained
+    let trained : trains (getD (i .labels) (l .k) (pos 0)) (getD (i .qs) (l .k) nan) ≡ true = sym (test .before .trains-at .ensures) ∙ not-false _ (test .if1 .left) in (
+      omega (arith, inside t),
+      one-more (s .args .model) i (now (s .args .beta)) (l .k) (d .charge-at .result) (c .predict-peptide .result) (y .result) (l .sse) (s .pre) (inside t) trained
           (d .charge-at .ensures) (y .ensures) (c .predict-peptide .ensures) (l .inv .1),
     )
 
 returns : tie.Need-returns Inv-loop μ-loop
 returns c =
     let s = start (c .before) in
-    c .before .loop .inv .1 ∙ ap (sseOf (now (s .args .beta))) (seen-all (s .args .model) (passed s) (s .pre) (c .before .loop .i) (omega arith))
+    c .before .loop .inv .1 ∙ ap (sseOf (now (s .args .beta))) (seen-all (s .args .model) (passed s) (s .pre) (c .before .loop .k) (omega arith))
 
 pub sum-squares-spec : {M : Type 1} → statement M
 sum-squares-spec =
@@ -136,17 +140,17 @@ sum-squares-spec =
     μ-loop
     loop-holds
     trains-at-requires
-    add-i
+    add-k
     loop-less
     loop-again
     mul-widen
     shared-slice-read-widen
     widen-requires
-    mul-t21
-    shared-slice-read-t25
+    mul-p
+    shared-slice-read-p
     charge-at-requires
     predict-peptide-requires
-    add-i-2
+    add-k-2
     loop-less-2
     loop-again-2
     returns)

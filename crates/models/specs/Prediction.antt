@@ -1,0 +1,43 @@
+-- The predictions of a fitted model, and their errors. Definitions only.
+use mathlib.Core.Bool.{Bool, true, false, cond}
+use mathlib.Core.List.{List, [], map, zipWith}
+use lib.IntN.{pos}
+use lib.Ieee.{Float, binary32, binary64, sub, ofInt}
+use Rattle.float.specs.Convert.{narrowed}
+use Rattle.float.specs.Value.{clamped, magnitude}
+use Rattle.matrix.specs.Cells.{zero64}
+use Rattle.peptide.specs.Table.{Table}
+use Rattle.embedding.specs.declared.Model.{Model}
+use Rattle.embedding.specs.declared.Model.the-variants.{Retention, Mobility}
+use Rattle.regression.specs.Regression.{dot}
+use Rattle.regression.specs.declared.FitOutcome.{FitOutcome}
+use Rattle.regression.specs.declared.FitOutcome.the-variants.{Solved, NoTrainingRows, NotSolved}
+use Rattle.model_fit.specs.Input.{Input, Query, queries}
+use Rattle.model_fit.specs.Samples.{designOf, fitOn}
+
+-- predictions are clamped to 0.0 and this
+abbrev pub largest : Model → Float
+largest Retention = ofInt binary64 (pos 1)
+largest Mobility = ofInt binary64 (pos 2)
+
+-- the clamped prediction, narrowed to an f32
+abbrev pub predictionOf : Model → Table → (beta : List Float) → Query → Float
+predictionOf model t beta q = narrowed (clamped zero64 (largest model) (dot (designOf model t q) beta))
+
+-- |observed - predicted|, in f32
+abbrev pub errorOf : (observed predicted : Float) → Float
+errorOf observed predicted = magnitude (sub binary32 observed predicted)
+
+-- a fit with coefficients
+abbrev pub isSolved : FitOutcome → Bool
+isSolved (Solved ridge r2 n) = true
+isSolved NoTrainingRows = false
+isSolved NotSolved = false
+
+-- of all rows, in order; none where the fit is not solved
+abbrev pub predictions : Model → Input → List Float
+predictions model i =
+    cond (isSolved (fitOn model i .outcome)) (map (predictionOf model (i .table) (fitOn model i .beta)) (queries (i .peptides) (i .charges))) []
+
+abbrev pub errors : Model → Input → List Float
+errors model i = zipWith errorOf (i .observed) (predictions model i)

@@ -1,0 +1,13 @@
+// The retention and the mobility model of sage's retention_model.rs and mobility_model.rs: each is fitted by linear regression to the rows that
+// train, and predicts every row. Both run the same loops, over the enum that names the model.
+use regression::FitOutcome;
+
+mod prediction; // predictions and errors
+pub mod retention_model; // fit, predict
+pub mod mobility_model; // fit, predict
+
+// What a fit answers: its outcome, or the status of the check that refused the call.
+pub enum FitAnswer {
+    Fitted(FitOutcome),
+    Refused(u8),
+}

@@ -1,0 +1,78 @@
+// Mobility: a linear model of the ion mobility from 100 columns of a peptide and a charge.
+ghost use mathlib.Core.List.{[]};
+ghost use Rattle.embedding.specs.declared.Model.{Model};
+ghost use Rattle.model_fit.specs.Input.{inputOf};
+ghost use Rattle.models.specs.Call.{FitCall, PredictCall};
+use crate::FitAnswer;
+use crate::prediction;
+use embedding::Model;
+
+// Fits the mobilities of the training rows. `beta` gets the 100 coefficients of a fit that is solved. The first 20,200 cells of `workspace` are
+// used, and end as +0.0 once the checks have passed.
+pub fn fit(
+    peptide: &[u32],
+    label: &[i32],
+    q: &[f32],
+    charge: &[u8],
+    mobility: &[f32],
+    letters: &[u8],
+    offsets: &[u32],
+    masses: &[f32],
+    workspace: &mut [f64],
+    beta: &mut [f64],
+) -> FitAnswer
+    ensures { λ r. ⌜ FitCall Model.Mobility (inputOf (now (peptide .entry)) (now (label .entry)) (now (q .entry)) (now (charge .entry)) (now (mobility .entry)) (now (letters .entry)) (now (offsets .entry)) (now (masses .entry)) []) (now (workspace .entry)) (now (workspace .exit)) (now (beta .entry)) (now (beta .exit)) r ⌝ }
+{
+    let none = [0.0f64; 1];
+    prediction::fit(
+        Model::Mobility,
+        peptide,
+        label,
+        q,
+        charge,
+        mobility,
+        letters,
+        offsets,
+        masses,
+        &none[..0],
+        workspace,
+        beta,
+    )
+}
+
+// Fits as `fit` does and, where that is solved, writes each row's prediction, clamped to 0..2, into `predicted` and |mobility - prediction| into
+// `error`.
+pub fn predict(
+    peptide: &[u32],
+    label: &[i32],
+    q: &[f32],
+    charge: &[u8],
+    mobility: &[f32],
+    letters: &[u8],
+    offsets: &[u32],
+    masses: &[f32],
+    workspace: &mut [f64],
+    beta: &mut [f64],
+    predicted: &mut [f32],
+    error: &mut [f32],
+) -> FitAnswer
+    ensures { λ r. ⌜ PredictCall Model.Mobility (inputOf (now (peptide .entry)) (now (label .entry)) (now (q .entry)) (now (charge .entry)) (now (mobility .entry)) (now (letters .entry)) (now (offsets .entry)) (now (masses .entry)) []) (now (workspace .entry)) (now (workspace .exit)) (now (beta .entry)) (now (beta .exit)) (now (predicted .entry)) (now (predicted .exit)) (now (error .entry)) (now (error .exit)) r ⌝ }
+{
+    let none = [0.0f64; 1];
+    prediction::predict(
+        Model::Mobility,
+        peptide,
+        label,
+        q,
+        charge,
+        mobility,
+        letters,
+        offsets,
+        masses,
+        &none[..0],
+        workspace,
+        beta,
+        predicted,
+        error,
+    )
+}

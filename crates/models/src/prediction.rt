@@ -1,0 +1,266 @@
+// Predictions and errors, each written by a function of its own, and the two calls that the entry points of both models make.
+ghost use mathlib.Core.Path.{_≡_};
+ghost use mathlib.Core.Bool.{true};
+ghost use mathlib.Core.List.{map, zipWith};
+ghost use Prim.Native.Nat.{_≤_};
+ghost use lib.ListN.{length};
+ghost use Rattle.model_fit.specs.Input.{inputOf, tableOf, queries, fitRoom};
+ghost use Rattle.model_fit.specs.Shared.{Numbered, Checked, overwritten};
+ghost use Rattle.models.specs.Prediction.{largest, isSolved, predictionOf, errorOf};
+ghost use Rattle.models.specs.Call.{predictRoom, FittedWithin, FitCall, PredictCall};
+use crate::FitAnswer;
+use embedding::Model;
+use matrix::PeptideIx;
+use model_fit::checks::check;
+use model_fit::checks::fit_room;
+use model_fit::checks::workspace_cells;
+use model_fit::design::charge_at;
+use model_fit::training::fit_checked;
+use model_fit::training::predict_peptide;
+use regression::FitOutcome;
+
+// The largest prediction of a model.
+fn largest(model: Model) -> f64
+    ensures { λ r. ⌜ r ≡ largest model ⌝ }
+{
+    match model {
+        Model::Retention => 1.0,
+        Model::Mobility => 2.0,
+    }
+}
+
+// Writes each row's prediction into the first cells of `predicted`.
+pub(crate) fn write_predictions(
+    model: Model,
+    peptide: &[u32],
+    charge: &[u8],
+    letters: &[u8],
+    offsets: &[u32],
+    masses: &[f32],
+    logs: &[f64],
+    beta: &[f64],
+    predicted: &mut [f32],
+)
+    requires { ⌜ Numbered (tableOf (now letters) (now offsets) (now masses) (now logs)) (now peptide) ⌝ }
+    requires { ⌜ length (now peptide) ≤ length (now predicted) ⌝ }
+    ensures { λ _. ⌜ now (predicted .exit) ≡ overwritten (map (predictionOf model (tableOf (now (letters .entry)) (now (offsets .entry)) (now (masses .entry)) (now (logs .entry))) (now (beta .entry))) (queries (now (peptide .entry)) (now (charge .entry)))) (now (predicted .entry)) ⌝ }
+{
+    let hi = largest(model);
+    for i in 0..peptide.len() {
+        let ix = PeptideIx(peptide[i]);
+        let z = charge_at(charge, i);
+        let x = predict_peptide(model, ix, z, letters, offsets, masses, logs, beta);
+        predicted[i] = float::narrow(float::clamp64(x, 0.0, hi));
+    }
+}
+
+// |observed - predicted|.
+fn error_of(observed: f32, predicted: f32) -> f32
+    ensures { λ r. ⌜ r ≡ errorOf observed predicted ⌝ }
+{
+    float::abs32(observed - predicted)
+}
+
+// Writes each row's error into the first cells of `error`.
+pub(crate) fn write_errors(observed: &[f32], predicted: &[f32], error: &mut [f32])
+    requires { ⌜ length (now observed) ≤ length (now predicted) ⌝ }
+    requires { ⌜ length (now observed) ≤ length (now error) ⌝ }
+    ensures { λ _. ⌜ now (error .exit) ≡ overwritten (zipWith errorOf (now (observed .entry)) (now (predicted .entry))) (now (error .entry)) ⌝ }
+{
+    for i in 0..observed.len() {
+        error[i] = error_of(observed[i], predicted[i]);
+    }
+}
+
+// Fits the model of a call that passed the checks, on the first cells of `workspace` and `beta`.
+fn fit_accepted(
+    model: Model,
+    peptide: &[u32],
+    label: &[i32],
+    q: &[f32],
+    charge: &[u8],
+    observed: &[f32],
+    letters: &[u8],
+    offsets: &[u32],
+    masses: &[f32],
+    logs: &[f64],
+    workspace: &mut [f64],
+    beta: &mut [f64],
+) -> FitOutcome
+    requires { ⌜ Checked (inputOf (now peptide) (now label) (now q) (now charge) (now observed) (now letters) (now offsets) (now masses) (now logs)) ⌝ }
+    requires { ⌜ fitRoom model (length (now workspace)) (length (now beta)) ≡ true ⌝ }
+    ensures { λ r. ⌜ FittedWithin model (inputOf (now (peptide .entry)) (now (label .entry)) (now (q .entry)) (now (charge .entry)) (now (observed .entry)) (now (letters .entry)) (now (offsets .entry)) (now (masses .entry)) (now (logs .entry))) (now (workspace .entry)) (now (workspace .exit)) (now (beta .entry)) (now (beta .exit)) r ⌝ }
+{
+    let cells = workspace_cells(model);
+    let d = embedding::order(model);
+    fit_checked(
+        model,
+        peptide,
+        label,
+        q,
+        charge,
+        observed,
+        letters,
+        offsets,
+        masses,
+        logs,
+        &mut workspace[..cells],
+        &mut beta[..d],
+    )
+}
+
+// Checks a call and fits the model.
+pub(crate) fn fit(
+    model: Model,
+    peptide: &[u32],
+    label: &[i32],
+    q: &[f32],
+    charge: &[u8],
+    observed: &[f32],
+    letters: &[u8],
+    offsets: &[u32],
+    masses: &[f32],
+    logs: &[f64],
+    workspace: &mut [f64],
+    beta: &mut [f64],
+) -> FitAnswer
+    ensures { λ r. ⌜ FitCall model (inputOf (now (peptide .entry)) (now (label .entry)) (now (q .entry)) (now (charge .entry)) (now (observed .entry)) (now (letters .entry)) (now (offsets .entry)) (now (masses .entry)) (now (logs .entry))) (now (workspace .entry)) (now (workspace .exit)) (now (beta .entry)) (now (beta .exit)) r ⌝ }
+{
+    let room = fit_room(model, workspace.len(), beta.len());
+    let status = check(
+        model,
+        peptide,
+        label,
+        q,
+        charge,
+        observed,
+        letters,
+        offsets,
+        masses,
+        logs,
+        room,
+    );
+    if status != feature::ACCEPTED {
+        return FitAnswer::Refused(status);
+    }
+    FitAnswer::Fitted(fit_accepted(
+        model,
+        peptide,
+        label,
+        q,
+        charge,
+        observed,
+        letters,
+        offsets,
+        masses,
+        logs,
+        workspace,
+        beta,
+    ))
+}
+
+// Whether all that a prediction of so many rows writes is long enough.
+fn predict_room(
+    model: Model,
+    rows: usize,
+    workspace: usize,
+    beta: usize,
+    predicted: usize,
+    error: usize,
+) -> bool
+    ensures { λ r. ⌜ r ≡ predictRoom model rows workspace beta predicted error ⌝ }
+{
+    if !fit_room(model, workspace, beta) {
+        return false;
+    }
+    if predicted < rows {
+        return false;
+    }
+    rows <= error
+}
+
+// Whether a fit has coefficients to predict with.
+fn is_solved(outcome: FitOutcome) -> bool
+    ensures { λ r. ⌜ r ≡ isSolved outcome ⌝ }
+{
+    match outcome {
+        FitOutcome::Solved { .. } => true,
+        FitOutcome::NoTrainingRows => false,
+        FitOutcome::NotSolved => false,
+    }
+}
+
+// Checks a call, fits the model and, where that is solved, writes predictions and errors.
+pub(crate) fn predict(
+    model: Model,
+    peptide: &[u32],
+    label: &[i32],
+    q: &[f32],
+    charge: &[u8],
+    observed: &[f32],
+    letters: &[u8],
+    offsets: &[u32],
+    masses: &[f32],
+    logs: &[f64],
+    workspace: &mut [f64],
+    beta: &mut [f64],
+    predicted: &mut [f32],
+    error: &mut [f32],
+) -> FitAnswer
+    ensures { λ r. ⌜ PredictCall model (inputOf (now (peptide .entry)) (now (label .entry)) (now (q .entry)) (now (charge .entry)) (now (observed .entry)) (now (letters .entry)) (now (offsets .entry)) (now (masses .entry)) (now (logs .entry))) (now (workspace .entry)) (now (workspace .exit)) (now (beta .entry)) (now (beta .exit)) (now (predicted .entry)) (now (predicted .exit)) (now (error .entry)) (now (error .exit)) r ⌝ }
+{
+    let room = predict_room(
+        model,
+        peptide.len(),
+        workspace.len(),
+        beta.len(),
+        predicted.len(),
+        error.len(),
+    );
+    let status = check(
+        model,
+        peptide,
+        label,
+        q,
+        charge,
+        observed,
+        letters,
+        offsets,
+        masses,
+        logs,
+        room,
+    );
+    if status != feature::ACCEPTED {
+        return FitAnswer::Refused(status);
+    }
+    let outcome = fit_accepted(
+        model,
+        peptide,
+        label,
+        q,
+        charge,
+        observed,
+        letters,
+        offsets,
+        masses,
+        logs,
+        workspace,
+        beta,
+    );
+    if is_solved(outcome) {
+        let d = embedding::order(model);
+        write_predictions(
+            model,
+            peptide,
+            charge,
+            letters,
+            offsets,
+            masses,
+            logs,
+            &beta[..d],
+            predicted,
+        );
+        write_errors(observed, predicted, error);
+    }
+    FitAnswer::Fitted(outcome)
+}

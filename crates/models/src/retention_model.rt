@@ -1,0 +1,76 @@
+// Retention: a linear model of the aligned time from 69 columns of a peptide.
+ghost use mathlib.Core.List.{[]};
+ghost use Rattle.embedding.specs.declared.Model.{Model};
+ghost use Rattle.model_fit.specs.Input.{inputOf};
+ghost use Rattle.models.specs.Call.{FitCall, PredictCall};
+use crate::FitAnswer;
+use crate::prediction;
+use embedding::Model;
+
+// Fits the aligned times of the training rows. `beta` gets the 69 coefficients of a fit that is solved. The first 9,660 cells of `workspace` are
+// used, and end as +0.0 once the checks have passed.
+pub fn fit(
+    peptide: &[u32],
+    label: &[i32],
+    q: &[f32],
+    aligned: &[f32],
+    letters: &[u8],
+    offsets: &[u32],
+    masses: &[f32],
+    logs: &[f64],
+    workspace: &mut [f64],
+    beta: &mut [f64],
+) -> FitAnswer
+    ensures { λ r. ⌜ FitCall Model.Retention (inputOf (now (peptide .entry)) (now (label .entry)) (now (q .entry)) [] (now (aligned .entry)) (now (letters .entry)) (now (offsets .entry)) (now (masses .entry)) (now (logs .entry))) (now (workspace .entry)) (now (workspace .exit)) (now (beta .entry)) (now (beta .exit)) r ⌝ }
+{
+    prediction::fit(
+        Model::Retention,
+        peptide,
+        label,
+        q,
+        b"",
+        aligned,
+        letters,
+        offsets,
+        masses,
+        logs,
+        workspace,
+        beta,
+    )
+}
+
+// Fits as `fit` does and, where that is solved, writes each row's prediction, clamped to 0..1, into `predicted` and |aligned - prediction| into
+// `error`.
+pub fn predict(
+    peptide: &[u32],
+    label: &[i32],
+    q: &[f32],
+    aligned: &[f32],
+    letters: &[u8],
+    offsets: &[u32],
+    masses: &[f32],
+    logs: &[f64],
+    workspace: &mut [f64],
+    beta: &mut [f64],
+    predicted: &mut [f32],
+    error: &mut [f32],
+) -> FitAnswer
+    ensures { λ r. ⌜ PredictCall Model.Retention (inputOf (now (peptide .entry)) (now (label .entry)) (now (q .entry)) [] (now (aligned .entry)) (now (letters .entry)) (now (offsets .entry)) (now (masses .entry)) (now (logs .entry))) (now (workspace .entry)) (now (workspace .exit)) (now (beta .entry)) (now (beta .exit)) (now (predicted .entry)) (now (predicted .exit)) (now (error .entry)) (now (error .exit)) r ⌝ }
+{
+    prediction::predict(
+        Model::Retention,
+        peptide,
+        label,
+        q,
+        b"",
+        aligned,
+        letters,
+        offsets,
+        masses,
+        logs,
+        workspace,
+        beta,
+        predicted,
+        error,
+    )
+}
