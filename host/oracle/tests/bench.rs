@@ -2,6 +2,7 @@
 
 use oracle::alignment::{align, Row};
 use oracle::leaf;
+use oracle::program::program;
 use oracle::solve::System;
 use sage::database::{IndexedDatabase, PeptideIx};
 use sage::ml::mobility_model::MobilityModel;
@@ -68,6 +69,25 @@ fn the_programs_row() {
     let rows = [row(0, 0, 10.0)];
     assert_eq!(record(&rows), [0x4120_0000, 0, 0x3F80_0000]);
     assert_eq!(align(1, &rows).features[0].aligned_rt.to_bits(), 0x3F80_0000);
+}
+
+/// The same row as the program's text, and a text that is refused in each way, in the order of the checks.
+#[test]
+fn the_programs_text() {
+    let head = "files=1\npeptides=1\n";
+    let rows = "file=0\npeptide=0\nlabel=1\nq=00000000\nrt=41200000\n";
+    let answer =
+        "status=0\nfile=0\nmax=41200000\nslope=00000000\nintercept=3F800000\naligned=3F800000\n";
+    let text = head.to_string() + rows;
+    assert_eq!(program(text.as_bytes()), answer);
+    let status = |text: &str, n: u8| assert_eq!(program(text.as_bytes()), format!("status={n}\n"));
+    status(&text.replace("files=1", "files=+1"), 10);
+    status(&(text.replace("files=1", "files=9") + "file=0\n"), 10);
+    status(&text.replace("files=1", "files=0").replace("file=0", "file=7"), 2);
+    status(&text.replace("peptides=1", "peptides=65"), 2);
+    status(&(head.to_string() + &rows.repeat(257)), 2);
+    status(&text.replace("peptide=0", "peptide=1").replace("file=0", "file=1"), 4);
+    status(&text.replace("peptide=0", "peptide=1"), 5);
 }
 
 #[test]

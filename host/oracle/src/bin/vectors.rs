@@ -5,7 +5,7 @@
 //! that has such a folder, or for the kinds named after DIR, folder or not. With `--check` it writes
 //! nothing, compares with the stored files and fails on a difference.
 
-use oracle::{answers, gen, KINDS};
+use oracle::{answers_to, gen, KINDS};
 use std::fs;
 use std::path::{Path, PathBuf};
 use std::process::ExitCode;
@@ -29,7 +29,7 @@ fn work(mut args: Vec<String>) -> Result<(), String> {
     };
     for kind in kinds(dir, names)? {
         let cases = gen::cases(kind)?;
-        let answers = answers(kind, &cases)?;
+        let answers = answers_to(kind, &cases)?;
         eprintln!("{kind}: {}", gen::tally(kind, &cases, &answers));
         let folder = folder(dir, kind);
         store(&folder, "stdin", &cases, check)?;
@@ -58,14 +58,14 @@ fn kinds<'a>(dir: &str, names: &'a [String]) -> Result<Vec<&'a str>, String> {
 }
 
 /// Writes a file, or compares it with what is stored.
-fn store(folder: &Path, name: &str, text: &str, check: bool) -> Result<(), String> {
+fn store(folder: &Path, name: &str, text: &[u8], check: bool) -> Result<(), String> {
     let path = folder.join(name);
     let fail = |e: std::io::Error| format!("{}: {e}", path.display());
     if !check {
         fs::create_dir_all(folder).map_err(fail)?;
         return fs::write(&path, text).map_err(fail);
     }
-    match fs::read(&path).map_err(fail)? == text.as_bytes() {
+    match fs::read(&path).map_err(fail)? == text {
         true => Ok(()),
         false => Err(format!("{} differs from what is made now", path.display())),
     }

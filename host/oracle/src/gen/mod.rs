@@ -5,10 +5,19 @@ pub mod float;
 pub mod gauss;
 pub mod leaves;
 pub mod pools;
+pub mod program;
 pub mod run;
 
-/// The stored cases of a kind, as the text that `crate::answers` reads.
-pub fn cases(kind: &str) -> Result<String, String> {
+/// The stored cases of a kind, as `crate::answers_to` reads them.
+pub fn cases(kind: &str) -> Result<Vec<u8>, String> {
+    if kind == "align_text" {
+        return Ok(program::cases());
+    }
+    tokens(kind).map(String::into_bytes)
+}
+
+/// The stored cases of a kind that has tokens.
+fn tokens(kind: &str) -> Result<String, String> {
     Ok(match kind {
         "float" => float::cases(),
         "mass" => leaves::mass(),
@@ -22,9 +31,11 @@ pub fn cases(kind: &str) -> Result<String, String> {
 }
 
 /// What the cases of a kind hold, in a few words.
-pub fn tally(kind: &str, cases: &str, answers: &str) -> String {
-    let (asked, answered) = (cases.lines().count(), answers.lines().count());
+pub fn tally(kind: &str, cases: &[u8], answers: &[u8]) -> String {
+    let lines = |text: &[u8]| text.iter().filter(|&&b| b == b'\n').count();
+    let (asked, answered) = (lines(cases), lines(answers));
     match kind {
+        "align_text" => program::tally(),
         "gauss" => gauss::tally(),
         "run" => run::tally(),
         "alignment" => format!("{} alignments", alignment::count()),

@@ -1,0 +1,2 @@
+-- The text of an answer of the align program. Definitions only.
+pub mod Output

@@ -1,0 +1,88 @@
+-- No answer is longer than 4,882 bytes: the status, eight files and 256 rows. Assumes nothing.
+use mathlib.Core.Path.{_≡_, refl, sym, ap, _∙_}
+use mathlib.Core.Bool.{Bool, true, false, cond}
+use mathlib.Core.List.{List, _++_, map}
+use mathlib.Core.Option.{Option, none, some}
+use Prim.Native.Nat.{ℕ, _≤_}
+use native.Mathlib.Omega.{arith}
+use lib.ListN.{length, drop, length-map}
+use borrow.Author.Tests.{le-leb}
+use Rattle.feature.specs.Checks.{allBelow}
+use Rattle.feature.specs.Status.{tooShort, badFile, badPeptide}
+use Rattle.rt_matrix.specs.declared.Alignment.{Alignment}
+use Rattle.retention_alignment.specs.Alignments.{aligned}
+use Rattle.retention_alignment.specs.Call as Call
+use Rattle.retention_alignment.specs.Call.{recordsFor, rows}
+use Rattle.retention_alignment.proofs.Rows.{length-rows}
+use Rattle.align_input.specs.declared.TextRow.{TextRow}
+use Rattle.align_input.specs.Input.{Input}
+use Rattle.align_input.specs.Parse.{parse}
+use Rattle.align_input.specs.Columns.{rtOf}
+use Rattle.align_output.specs.Output.{statusText}
+use Rattle.align_output.proofs.Lengths.{status-length, accepted-length}
+use Rattle.align_text.specs.declared.TextAnswer.{TextAnswer}
+use Rattle.align_text.specs.declared.TextAnswer.the-variants.{Written, Refused}
+use Rattle.align_text.specs.AlignText.{withinLimits, columnsOf, alignmentText, columnsText, inputText, answerTo, alignText, fits, Answered}
+use Rattle.align_text.proofs.Aligning.{records-long}
+use Rattle.align_text.proofs.Answers.{within}
+
+abbrev pub longest : ℕ
+longest = 4882
+
+-- the longer of two texts
+either : (b : Bool) (x y : List ℕ) (n : ℕ) → (b ≡ true → length x ≤ n) → length y ≤ n → length (cond b x y) ≤ n
+either true x y n h g = h refl
+either false x y n h g = g
+
+status-short : (n : ℕ) → n ≤ 10 → length (statusText n) ≤ longest
+status-short n h = omega (arith, status-length n (omega arith))
+
+module _ (i : Call.Input) (files : i .files ≤ 8) (count : length (rows i) ≤ 256) where
+  alignment-short : length (alignmentText i) ≤ longest
+  unfolding alignmentText
+  alignment-short =
+      let m = map (λ (a : Alignment). a .«max_rt») (recordsFor i) in
+      let t = map (aligned (recordsFor i)) (rows i) in
+      let e : length m ≡ i .files = length-map (recordsFor i) (λ a. a .«max_rt») ∙ records-long i in
+      let f : length t ≡ length (rows i) = length-map (rows i) (aligned (recordsFor i)) in
+      omega (arith, accepted-length m (map (λ (a : Alignment). a .slope) (recordsFor i)) (map (λ (a : Alignment). a .intercept) (recordsFor i)) t (omega (arith, e)), e, f)
+
+  columns-short : length (columnsText i) ≤ longest
+  unfolding columnsText
+  columns-short =
+      either (allBelow (i .files) (i .file)) _ _ longest
+      (λ h. either (allBelow (i .peptides) (i .peptide)) _ _ longest (λ g. alignment-short) (status-short badPeptide (omega arith)))
+      (status-short badFile (omega arith))
+
+rows-count : (d : Input) → length (rows (columnsOf d)) ≡ length (d .rows)
+unfolding columnsOf
+rows-count d =
+    let f = length-map (d .rows) (λ r. r .file) in
+    length-rows (map (λ (r : TextRow). r .file) (d .rows)) (map (λ (r : TextRow). r .peptide) (d .rows)) (map rtOf (d .rows)) (length-map (d .rows) (λ r. r .peptide) ∙ sym f) (length-map (d .rows) rtOf ∙ sym f)
+    ∙ f
+
+input-short : (d : Input) → length (inputText d) ≤ longest
+unfolding inputText columnsOf
+input-short d =
+    either (withinLimits (d .files) (d .peptides) (length (d .rows))) _ _ longest
+    (λ h.
+    let w = within (d .files) (d .peptides) (length (d .rows)) h in
+    columns-short (columnsOf d) (w .files) (omega (arith, rows-count d, w .rows)))
+    (status-short 2 (omega arith))
+
+answer-short : (o : Option Input) → length (answerTo o) ≤ longest
+answer-short none = status-short 10 (omega arith)
+answer-short (some d) = input-short d
+
+pub text-short : (t : List ℕ) → length (alignText t) ≤ longest
+unfolding alignText
+text-short t = answer-short (parse t)
+
+-- an output of that length takes every answer
+pub always-written : (t before : List ℕ) (r : TextAnswer) (after : List ℕ) → Answered t before r after → longest ≤ length before
+    → (r ≡ Written (length (alignText t))) × (after ≡ alignText t ++ drop (length (alignText t)) before)
+always-written t before r after w h =
+    let f : fits (alignText t) before ≡ true = le-leb (length (alignText t)) (length before) (omega (arith, text-short t)) in (
+      w .answer ∙ ap (λ (b : Bool). cond b (Written (length (alignText t))) (Refused tooShort)) f,
+      w .output ∙ ap (λ (b : Bool). cond b (alignText t ++ drop (length (alignText t)) before) before) f,
+    )

@@ -1,0 +1,158 @@
+-- `align_text::answer_rows` meets its contract: by the alignment's answer, whose parts are written, or whose status is.
+-- Assumes nothing.
+use mathlib.Core.Path.{_≡_, sym, _∙_, subst}
+use mathlib.Core.List.{List}
+use native.Mathlib.Omega.{arith}
+use lib.ListN.{length, take}
+use lib.Seq.{length-take-le}
+use lib.Ieee.{Float}
+use denote.Ref.{now}
+use Rattle.text.specs.Answer.{Wrote}
+use Rattle.retention_alignment.specs.Call.{Input}
+use Rattle.align_text.specs.Ready.{Ready}
+use Rattle.align_text.proofs.Aligning.{refused-is, written-is}
+use Prim.Native.Nat.{ℕ}
+use borrow.Author.Needs.{needs}
+use Rattle.align_text.proofs.answer_rows.Statement.{statement}
+use Rattle.align_text.proofs.answer_rows.Tie as tie
+
+abbrev start : tie.After-global-alignment → tie.Start
+start g = g .before .before .before .before .before .before .before .before .before .before .before
+
+abbrev input : tie.After-global-alignment → Input
+input g =
+    let a = start g .args in
+    record { file = now (a .file); peptide = now (a .peptide); label = now (a .label); q = now (a .q); rt = now (a .rt); files = a .files; peptides = a .peptides }
+
+ready : (g : tie.After-global-alignment) → Ready (input g) (now (start g .args .out))
+ready g = start g .pre
+
+-- the outputs are as long as they were made
+record Kept (g : tie.After-global-alignment) : Type 0 where
+  max-rt : length (g .global-alignment .last .1 .1 .1 .1 .1 .1 .1 .1 .0) ≡ 8
+  slope : length (g .global-alignment .last .1 .1 .1 .1 .1 .1 .1 .1 .1 .0) ≡ 8
+  intercept : length (g .global-alignment .last .1 .1 .1 .1 .1 .1 .1 .1 .1 .1 .0) ≡ 8
+  aligned : length (g .global-alignment .last .1 .1 .1 .1 .1 .1 .1 .1 .1 .1 .1 .0) ≡ 256
+
+kept : (g : tie.After-global-alignment) → Kept g
+kept g =
+    let k = g .global-alignment .kept .1 .1 .1 .1 .1 .1 .1 .1 in
+    record { max-rt = k .0; slope = k .1 .0; intercept = k .1 .1 .0; aligned = k .1 .1 .1 .0 }
+
+-- the parts that are written of
+files-in : (g : tie.After-global-alignment) (l : List Float) → length l ≡ 8 → length (take (start g .args .files) l) ≡ start g .args .files
+files-in g l e = length-take-le _ l (omega (arith, ready g .files))
+
+rows-in : (g : tie.After-global-alignment) (l : List Float) → length l ≡ 256 → length (take (length (now (start g .args .file))) l) ≡ length (now (start g .args .file))
+rows-in g l e = length-take-le _ l (omega (arith, ready g .rows))
+
+slice-aggregate-global-alignment : tie.Need-slice-aggregate-global-alignment
+slice-aggregate-global-alignment c = search needs
+
+slice-aggregate-global-alignment-2 : tie.Need-slice-aggregate-global-alignment-2
+slice-aggregate-global-alignment-2 c = search needs
+
+slice-aggregate-global-alignment-3 : tie.Need-slice-aggregate-global-alignment-3
+slice-aggregate-global-alignment-3 c = search needs
+
+slice-aggregate-global-alignment-4 : tie.Need-slice-aggregate-global-alignment-4
+slice-aggregate-global-alignment-4 c = search needs
+
+slice-aggregate-global-alignment-5 : tie.Need-slice-aggregate-global-alignment-5
+slice-aggregate-global-alignment-5 c = search needs
+
+global-alignment-requires : tie.Need-global-alignment-requires
+global-alignment-requires c κs = search needs
+
+enum-known-answer : tie.Need-enum-known-answer
+enum-known-answer c = search needs
+
+enum-told : tie.Need-enum-told
+enum-told c = search needs
+
+array-share-prefix-max-rt : tie.Need-array-share-prefix-max-rt
+array-share-prefix-max-rt c = let g = c .before .before .before .before .before .before .before .before in omega (arith, kept g .max-rt, ready g .files)
+
+slice-aggregate-write-accepted : tie.Need-slice-aggregate-write-accepted
+slice-aggregate-write-accepted c = let g = c .before .before .before .before .before .before .before .before .before in sym (files-in g _ (kept g .max-rt))
+
+array-share-prefix-slope : tie.Need-array-share-prefix-slope
+array-share-prefix-slope c = let g = c .before .before .before .before .before .before .before .before .before in omega (arith, kept g .slope, ready g .files)
+
+slice-aggregate-write-accepted-2 : tie.Need-slice-aggregate-write-accepted-2
+slice-aggregate-write-accepted-2 c = let g = c .before .before .before .before .before .before .before .before .before .before in sym (files-in g _ (kept g .slope))
+
+array-share-prefix-intercept : tie.Need-array-share-prefix-intercept
+array-share-prefix-intercept c = let g = c .before .before .before .before .before .before .before .before .before .before in omega (arith, kept g .intercept, ready g .files)
+
+slice-aggregate-write-accepted-3 : tie.Need-slice-aggregate-write-accepted-3
+slice-aggregate-write-accepted-3 c = let g = c .before .before .before .before .before .before .before .before .before .before .before in sym (files-in g _ (kept g .intercept))
+
+array-share-prefix-aligned : tie.Need-array-share-prefix-aligned
+array-share-prefix-aligned c = let g = c .before .before .before .before .before .before .before .before .before .before .before in omega (arith, kept g .aligned, ready g .rows)
+
+slice-aggregate-write-accepted-4 : tie.Need-slice-aggregate-write-accepted-4
+slice-aggregate-write-accepted-4 c = let g = c .before .before .before .before .before .before .before .before .before .before .before .before in sym (rows-in g _ (kept g .aligned))
+
+write-accepted-requires : tie.Need-write-accepted-requires
+write-accepted-requires c κs =
+    let g = c .before .before .before .before .before .before .before .before .before .before .before .before in
+    let l = g .global-alignment .last .1 .1 .1 .1 .1 .1 .1 .1 in
+    let f = files-in g (l .0) (kept g .max-rt) in
+    (omega (arith, f, rows-in g (l .1 .1 .1 .0) (kept g .aligned), ready g .files, ready g .rows, ready g .room), omega (arith, f, ready g .files), files-in g _ (kept g .slope) ∙ sym f, files-in g _ (kept g .intercept) ∙ sym f)
+
+same-length : tie.Need-same-length
+same-length c = search needs
+
+returns : tie.Need-returns
+returns c =
+    let w = c .before .before in
+    let g = w .before .before .before .before .before .before .before .before .before .before .before .before .before in
+    let told = w .before .before .before .before .before .before in
+    let a = start g .args in
+    subst (λ (x : List ℕ). Wrote (now (a .out)) 0 x (w .write-accepted .result) (w .write-accepted .last .0))
+    (written-is (input g) (now (a .out)) (ready g) _ _ _ (g .global-alignment .ensures) (record { workspace = omega arith; maxRt = omega arith; slope = omega arith; intercept = omega arith; aligned = omega arith }) (told .enum-told .given .1))
+    (w .write-accepted .ensures)
+
+write-status-requires : tie.Need-write-status-requires
+write-status-requires c κs = search needs
+
+same-length-2 : tie.Need-same-length-2
+same-length-2 c = search needs
+
+returns-2 : tie.Need-returns-2
+returns-2 c =
+    let w = c .before .before in
+    let k = w .before .before .before in
+    let g = k .before .before .before .before .before .before .before in
+    let a = start g .args in
+    subst (λ (x : List ℕ). Wrote (now (a .out)) 0 x (w .write-status .result) (w .write-status .last .0))
+    (sym (refused-is (input g) (now (a .out)) (ready g) _ _ _ (g .global-alignment .ensures) (record { workspace = omega arith; maxRt = omega arith; slope = omega arith; intercept = omega arith; aligned = omega arith }) _ (k .answer .given .1)))
+    (w .write-status .ensures)
+
+pub answer-rows-spec : {M : Type 1} → statement M
+answer-rows-spec =
+    tie.close
+    (tie.spec
+    slice-aggregate-global-alignment
+    slice-aggregate-global-alignment-2
+    slice-aggregate-global-alignment-3
+    slice-aggregate-global-alignment-4
+    slice-aggregate-global-alignment-5
+    global-alignment-requires
+    enum-known-answer
+    enum-told
+    array-share-prefix-max-rt
+    slice-aggregate-write-accepted
+    array-share-prefix-slope
+    slice-aggregate-write-accepted-2
+    array-share-prefix-intercept
+    slice-aggregate-write-accepted-3
+    array-share-prefix-aligned
+    slice-aggregate-write-accepted-4
+    write-accepted-requires
+    same-length
+    returns
+    write-status-requires
+    same-length-2
+    returns-2)

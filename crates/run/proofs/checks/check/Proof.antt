@@ -1,0 +1,56 @@
+-- `run::checks::check` meets its contract: each check's answer, and the first that fails. Assumes nothing.
+use mathlib.Core.Path.{_∙_}
+use borrow.Author.Needs.{needs}
+use Rattle.run.proofs.CheckLaws.{status-by}
+use Rattle.run.proofs.checks.check.Statement.{statement}
+use Rattle.run.proofs.checks.check.Tie as tie
+
+columns-agree-requires : tie.Need-columns-agree-requires
+columns-agree-requires c κs = search needs
+
+limits-requires : tie.Need-limits-requires
+limits-requires c κs = search needs
+
+long-enough-requires : tie.Need-long-enough-requires
+long-enough-requires c κs = search needs
+
+check-offsets-requires : tie.Need-check-offsets-requires
+check-offsets-requires c κs = search needs
+
+check-letters-requires : tie.Need-check-letters-requires
+check-letters-requires c κs = search needs
+
+all-below-requires : tie.Need-all-below-requires
+all-below-requires c κs = search needs
+
+all-below-requires-2 : tie.Need-all-below-requires-2
+all-below-requires-2 c κs = search needs
+
+first-failing-requires : tie.Need-first-failing-requires
+first-failing-requires c κs = search needs
+
+returns : tie.Need-returns
+returns c =
+    c .first-failing .ensures
+    ∙ status-by _ _ _ _ _ _ _ _ _
+    (c .before .before .before .before .before .before .before .columns-agree .ensures)
+    (c .before .before .before .before .before .before .limits .ensures)
+    (c .before .before .before .before .before .long-enough .ensures)
+    (c .before .before .before .before .check-offsets .ensures)
+    (c .before .before .before .check-letters .ensures)
+    (c .before .before .all-below .ensures)
+    (c .before .all-below2 .ensures)
+
+pub check-spec : {M : Type 1} → statement M
+check-spec =
+    tie.close
+    (tie.spec
+    columns-agree-requires
+    limits-requires
+    long-enough-requires
+    check-offsets-requires
+    check-letters-requires
+    all-below-requires
+    all-below-requires-2
+    first-failing-requires
+    returns)

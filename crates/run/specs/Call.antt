@@ -1,0 +1,212 @@
+-- A call of `run`: what it is passed, its status, what it answers, and what it leaves in every slice. Definitions only.
+use mathlib.Core.Path.{_≡_}
+use mathlib.Core.Bool.{Bool, _&&_, cond}
+use mathlib.Core.List.{List, [], _∷_, map}
+use Prim.Native.Nat.{ℕ, _*_, max}
+use lib.Dec.{eqb, leb}
+use lib.IntN.{ℤ}
+use lib.Ieee.{Float}
+use lib.ListN.{length, replicate}
+use Rattle.matrix.specs.Cells.{zero64}
+use Rattle.feature.specs.Feature.{Row, rowsFrom, training}
+use Rattle.feature.specs.Checks.{allBelow, lengthsAgree, withinLimits}
+use Rattle.feature.specs.Status.{accepted, badLengths, pastLimit, tooShort, badOffsets, badLetter, badFile, badPeptide}
+use Rattle.peptide.specs.Table.{Table, offsetsRight, lettersRight}
+use Rattle.embedding.specs.Design.{orderOf}
+use Rattle.embedding.specs.declared.Model.{Model}
+use Rattle.embedding.specs.declared.Model.the-variants.{Retention, Mobility}
+use Rattle.rt_matrix.specs.Line.{present}
+use Rattle.rt_matrix.specs.declared.Alignment.{Alignment}
+use Rattle.regression.specs.Regression.{statusOf as outcomeStatus}
+use Rattle.regression.specs.declared.FitOutcome.{FitOutcome}
+use Rattle.regression.specs.declared.FitOutcome.the-variants.{NotSolved}
+use Rattle.model_fit.specs.Input.{firstFailing, workspaceCells}
+use Rattle.model_fit.specs.Shared.{overwritten}
+use Rattle.models.specs.declared.FitAnswer.{FitAnswer}
+use Rattle.models.specs.declared.FitAnswer.the-variants.{Fitted, Refused as NoFit}
+use Rattle.run.specs.Fitted.{Fitted as FittedNumbers, Predicted, RowOutcome, longest, fitted, outcome}
+use Rattle.run.specs.declared.checks.Room.{Room}
+use Rattle.run.specs.declared.RunAnswer.{RunAnswer}
+use Rattle.run.specs.declared.RunAnswer.the-variants.{Ran, Refused}
+
+-- what is read: the columns of the rows, the number of files, and the peptide table
+pub record Input : Type 0 where
+  pub file : List ℕ
+  pub peptide : List ℕ
+  pub label : List ℤ
+  pub q : List Float
+  pub rt : List Float
+  pub charge : List ℕ
+  pub mobility : List Float
+  pub files : ℕ
+  pub table : Table
+
+-- what is written: the workspace; a cell of three outputs for each file; an aligned time for each row; and for each model its coefficients, and
+-- a prediction and an error for each row
+pub record Slices : Type 0 where
+  pub workspace : List Float
+  pub maxRt : List Float
+  pub slope : List Float
+  pub intercept : List Float
+  pub aligned : List Float
+  pub retentionBeta : List Float
+  pub retentionPredicted : List Float
+  pub retentionError : List Float
+  pub mobilityBeta : List Float
+  pub mobilityPredicted : List Float
+  pub mobilityError : List Float
+
+abbrev pub rows : Input → List Row
+rows i = rowsFrom (i .file) (i .peptide) (i .label) (i .q) (i .rt) (i .charge) (i .mobility)
+
+-- the peptides of the table
+abbrev pub peptides : Input → ℕ
+peptides i = length (i .table .masses)
+
+-- ---- the checks
+
+-- the cells of the workspace: the alignment's, or the larger fit's where those are more
+abbrev pub neededCells : (files peptides : ℕ) → ℕ
+neededCells files peptides = max (peptides * files) (workspaceCells (orderOf Mobility))
+
+-- the columns belong together, and the logs to the masses
+abbrev pub columnsAgree : Input → Bool
+columnsAgree i =
+    lengthsAgree (length (i .file)) (length (i .peptide) ∷ length (i .label) ∷ length (i .q) ∷ length (i .rt) ∷ length (i .charge) ∷ length (i .mobility) ∷ [])
+    && lengthsAgree (peptides i) (length (i .table .logs) ∷ [])
+
+-- the slices of these lengths are long enough: the workspace, an output for each file, one for each row, and the coefficients
+abbrev pub longEnough : (files peptides rows : ℕ) → Room → Bool
+longEnough files peptides rows room =
+    leb (neededCells files peptides) (room .workspace)
+    && (leb files (room .«max_rt») && leb files (room .slope) && leb files (room .intercept))
+    && (leb rows (room .aligned) && leb rows (room .«retention_predicted») && leb rows (room .«retention_error») && leb rows (room .«mobility_predicted») && leb rows (room .«mobility_error»))
+    && (leb (orderOf Retention) (room .«retention_beta») && leb (orderOf Mobility) (room .«mobility_beta»))
+
+-- the lengths of slices
+abbrev pub roomOf : Slices → Room
+roomOf s =
+    record {
+      workspace = length (s .workspace);
+      «max_rt» = length (s .maxRt);
+      slope = length (s .slope);
+      intercept = length (s .intercept);
+      aligned = length (s .aligned);
+      «retention_beta» = length (s .retentionBeta);
+      «retention_predicted» = length (s .retentionPredicted);
+      «retention_error» = length (s .retentionError);
+      «mobility_beta» = length (s .mobilityBeta);
+      «mobility_predicted» = length (s .mobilityPredicted);
+      «mobility_error» = length (s .mobilityError);
+    }
+
+-- 1, 2, 3, 7, 6, 4, 5
+abbrev pub checks : Input → Room → List (ℕ × Bool)
+checks i room =
+    (badLengths, columnsAgree i)
+    ∷ (pastLimit, withinLimits (i .files) (length (i .file)) (peptides i))
+    ∷ (tooShort, longEnough (i .files) (peptides i) (length (i .file)) room)
+    ∷ (badOffsets, offsetsRight (peptides i) (length (i .table .letters)) (i .table .offsets))
+    ∷ (badLetter, lettersRight (i .table .letters))
+    ∷ (badFile, allBelow (i .files) (i .file))
+    ∷ (badPeptide, allBelow (peptides i) (i .peptide))
+    ∷ []
+
+-- the status of the first check that fails
+unfoldable pub statusBy : Input → Room → ℕ
+statusBy i room = firstFailing (checks i room)
+
+abbrev pub status : Input → Slices → ℕ
+status i s = statusBy i (roomOf s)
+
+-- ---- the answer
+
+-- what the rows give
+abbrev pub fittedBy : Input → FittedNumbers
+fittedBy i = fitted (i .files) (i .table) (longest (i .files) (rows i)) (training (rows i))
+
+unfoldable pub answerOf : (status : ℕ) → FittedNumbers → RunAnswer
+answerOf s f = cond (eqb s accepted) (Ran (f .retention .outcome) (f .mobility .outcome)) (Refused s)
+
+-- document 01's number for the alignment and for the fit of each model
+pub record Numbers : Type 0 where
+  pub alignment : ℕ
+  pub retention : ℕ
+  pub mobility : ℕ
+
+abbrev pub numbersOf : RunAnswer → Numbers
+numbersOf (Ran retention mobility) = record { alignment = accepted; retention = outcomeStatus retention; mobility = outcomeStatus mobility }
+numbersOf (Refused n) = record { alignment = n; retention = n; mobility = n }
+
+-- ---- the slices
+
+-- each row's results
+abbrev pub outcomes : Input → List RowOutcome
+outcomes i = map (outcome (i .table) (fittedBy i)) (rows i)
+
+-- a model's predictions and errors, where it fits
+abbrev pub predictedOf : Model → Input → List Predicted
+predictedOf Retention i = present (map (λ (o : RowOutcome). o .retention) (outcomes i))
+predictedOf Mobility i = present (map (λ (o : RowOutcome). o .mobility) (outcomes i))
+
+abbrev pub predictionsOf : Model → Input → List Float
+predictionsOf model i = map (λ (p : Predicted). p .prediction) (predictedOf model i)
+
+abbrev pub errorsOf : Model → Input → List Float
+errorsOf model i = map (λ (p : Predicted). p .error) (predictedOf model i)
+
+-- what an accepted call leaves
+unfoldable pub filled : Input → Slices → Slices
+filled i s =
+    record {
+      workspace = overwritten (replicate (neededCells (i .files) (peptides i)) zero64) (s .workspace);
+      maxRt = overwritten (map (λ (a : Alignment). a .«max_rt») (fittedBy i .records)) (s .maxRt);
+      slope = overwritten (map (λ (a : Alignment). a .slope) (fittedBy i .records)) (s .slope);
+      intercept = overwritten (map (λ (a : Alignment). a .intercept) (fittedBy i .records)) (s .intercept);
+      aligned = overwritten (map (λ (o : RowOutcome). o .aligned) (outcomes i)) (s .aligned);
+      retentionBeta = overwritten (fittedBy i .retention .beta) (s .retentionBeta);
+      retentionPredicted = overwritten (predictionsOf Retention i) (s .retentionPredicted);
+      retentionError = overwritten (errorsOf Retention i) (s .retentionError);
+      mobilityBeta = overwritten (fittedBy i .mobility .beta) (s .mobilityBeta);
+      mobilityPredicted = overwritten (predictionsOf Mobility i) (s .mobilityPredicted);
+      mobilityError = overwritten (errorsOf Mobility i) (s .mobilityError);
+    }
+
+-- the outcome that an answer carries; one that is refused, which no accepted run gets, counts as not solved
+abbrev pub outcomeOf : FitAnswer → FitOutcome
+outcomeOf (Fitted o) = o
+outcomeOf (NoFit n) = NotSolved
+
+-- an accepted call: its answer and every slice
+pub record Filled (i : Input) (before after : Slices) (r : RunAnswer) : Type 0 where
+  pub answer : r ≡ Ran (fittedBy i .retention .outcome) (fittedBy i .mobility .outcome)
+  pub workspace : after .workspace ≡ filled i before .workspace
+  pub maxRt : after .maxRt ≡ filled i before .maxRt
+  pub slope : after .slope ≡ filled i before .slope
+  pub intercept : after .intercept ≡ filled i before .intercept
+  pub aligned : after .aligned ≡ filled i before .aligned
+  pub retentionBeta : after .retentionBeta ≡ filled i before .retentionBeta
+  pub retentionPredicted : after .retentionPredicted ≡ filled i before .retentionPredicted
+  pub retentionError : after .retentionError ≡ filled i before .retentionError
+  pub mobilityBeta : after .mobilityBeta ≡ filled i before .mobilityBeta
+  pub mobilityPredicted : after .mobilityPredicted ≡ filled i before .mobilityPredicted
+  pub mobilityError : after .mobilityError ≡ filled i before .mobilityError
+
+-- what a call leaves: a refused one every slice as it was
+unfoldable pub slicesAfter : Input → Slices → Slices
+slicesAfter i s = cond (eqb (status i s) accepted) (filled i s) s
+
+-- The contract: the answer, and every slice, each cell of it.
+pub record RunCall (i : Input) (before after : Slices) (r : RunAnswer) : Type 0 where
+  pub answer : r ≡ answerOf (status i before) (fittedBy i)
+  pub workspace : after .workspace ≡ slicesAfter i before .workspace
+  pub maxRt : after .maxRt ≡ slicesAfter i before .maxRt
+  pub slope : after .slope ≡ slicesAfter i before .slope
+  pub intercept : after .intercept ≡ slicesAfter i before .intercept
+  pub aligned : after .aligned ≡ slicesAfter i before .aligned
+  pub retentionBeta : after .retentionBeta ≡ slicesAfter i before .retentionBeta
+  pub retentionPredicted : after .retentionPredicted ≡ slicesAfter i before .retentionPredicted
+  pub retentionError : after .retentionError ≡ slicesAfter i before .retentionError
+  pub mobilityBeta : after .mobilityBeta ≡ slicesAfter i before .mobilityBeta
+  pub mobilityPredicted : after .mobilityPredicted ≡ slicesAfter i before .mobilityPredicted
+  pub mobilityError : after .mobilityError ≡ slicesAfter i before .mobilityError

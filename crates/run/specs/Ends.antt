@@ -1,0 +1,120 @@
+-- Demand 3, "Edits outside the training set": what is supposed of two ends of a list of edits, and what is claimed of them. Each clause stands
+-- under the sentence of document 01, in quotation marks, that it renders. Definitions only.
+use mathlib.Core.Path.{_≡_}
+use mathlib.Core.Bool.{Bool, true, false}
+use mathlib.Core.List.{List, map}
+use mathlib.Core.Option.{Option, some}
+use Prim.Native.Nat.{ℕ, _<_}
+use lib.Ieee.{Float, nan}
+use lib.ListN.{length, getD, take}
+use Rattle.feature.specs.Feature.{training}
+use Rattle.feature.specs.Status.{accepted}
+use Rattle.embedding.specs.Design.{orderOf}
+use Rattle.embedding.specs.declared.Model.{Model}
+use Rattle.embedding.specs.declared.Model.the-variants.{Retention, Mobility}
+use Rattle.rt_matrix.specs.declared.Alignment.{Alignment}
+use Rattle.models.specs.Prediction.{isSolved}
+use Rattle.run.specs.Fitted.{Fitted, Predicted, RowOutcome, longest, fitted, fitOfModel, outcome}
+use Rattle.run.specs.Call.{Input, Slices, RunCall, rows, status}
+use Rattle.run.specs.Edits.{Edit, editedBy, touchOutside, rowAt}
+use Rattle.run.specs.declared.RunAnswer.{RunAnswer}
+use Rattle.run.specs.declared.RunAnswer.the-variants.{Ran, Refused}
+
+-- ---- an end
+
+-- "Only the two ends are run, both alike, whatever work room and outputs held": a call of `run` on an input and slices that held anything,
+-- with what its contract promises of the answer and of the slices after it. It meets none of the refusals 1 to 7.
+pub record End : Type 0 where
+  pub input : Input
+  pub before : Slices
+  pub after : Slices
+  pub answer : RunAnswer
+  pub contract : RunCall input before after answer
+  pub unrefused : status input before ≡ accepted
+
+-- what the program wrote for a model: its coefficients, and the predictions and errors of all rows
+abbrev pub betaOf : Model → Slices → List Float
+betaOf Retention s = s .retentionBeta
+betaOf Mobility s = s .mobilityBeta
+
+abbrev pub predictedOf : Model → Slices → List Float
+predictedOf Retention s = s .retentionPredicted
+predictedOf Mobility s = s .mobilityPredicted
+
+abbrev pub errorOf : Model → Slices → List Float
+errorOf Retention s = s .retentionError
+errorOf Mobility s = s .mobilityError
+
+-- whether the model fits, as the program answered: "Failure to fit is 8 or 9"
+abbrev pub fits : Model → RunAnswer → Bool
+fits Retention (Ran retention mobility) = isSolved retention
+fits Mobility (Ran retention mobility) = isSolved mobility
+fits Retention (Refused n) = false
+fits Mobility (Refused n) = false
+
+-- ---- what is supposed
+
+pub record EditedOutside (a b : End) : Type 0 where
+  -- "A list of edits starts from any list of rows, and each edit gets the list the last one left"
+  pub edits : List Edit
+  pub edited : rows (b .input) ≡ editedBy edits (rows (a .input))
+  -- the row that an edit touches is outside the training set before and after; so the training rows keep their order
+  pub outside : touchOutside edits (rows (a .input)) ≡ true
+  -- file count and peptide table hold
+  pub files : b .input .files ≡ a .input .files
+  pub table : b .input .table ≡ a .input .table
+  -- each file's longest time, rounded up, is equal
+  pub longests : longest (b .input .files) (rows (b .input)) ≡ longest (a .input .files) (rows (a .input))
+
+-- ---- what is claimed
+
+-- "the records, coefficients, ridge, r2 and n"
+pub record SameFitted (a b : End) : Type 0 where
+  -- the record of every file
+  pub maxRt : take (a .input .files) (b .after .maxRt) ≡ take (a .input .files) (a .after .maxRt)
+  pub slope : take (a .input .files) (b .after .slope) ≡ take (a .input .files) (a .after .slope)
+  pub intercept : take (a .input .files) (b .after .intercept) ≡ take (a .input .files) (a .after .intercept)
+  -- for either model ridge, r2 and n, which the answer carries, or the same failure 8 or 9
+  pub answer : b .answer ≡ a .answer
+  -- and its coefficients
+  pub beta : (model : Model) → fits model (a .answer) ≡ true → take (orderOf model) (betaOf model (b .after)) ≡ take (orderOf model) (betaOf model (a .after))
+
+-- "Any row at one end and any row at the other that equals it to the bit in all seven count as one untouched row": the row k of a, the row l of b
+pub record SameRow (a b : End) (k l : ℕ) : Type 0 where
+  pub aligned : getD (b .after .aligned) l nan ≡ getD (a .after .aligned) k nan
+  -- where the model fits
+  pub prediction : (model : Model) → fits model (a .answer) ≡ true → getD (predictedOf model (b .after)) l nan ≡ getD (predictedOf model (a .after)) k nan
+  pub error : (model : Model) → fits model (a .answer) ≡ true → getD (errorOf model (b .after)) l nan ≡ getD (errorOf model (a .after)) k nan
+
+-- "Their definition is that of the modules above, fed the training rows in order, file count, peptide table and longest times, and nothing the
+-- program wrote"
+abbrev pub definition : End → Fitted
+definition e = fitted (e .input .files) (e .input .table) (longest (e .input .files) (rows (e .input))) (training (rows (e .input)))
+
+-- what the program wrote of the row k by a model
+abbrev pub writtenFor : Model → End → ℕ → Predicted
+writtenFor model e k = record { prediction = getD (predictedOf model (e .after)) k nan; error = getD (errorOf model (e .after)) k nan }
+
+-- a row's results by a model, as the definition has them
+abbrev pub resultOf : Model → RowOutcome → Option Predicted
+resultOf Retention o = o .retention
+resultOf Mobility o = o .mobility
+
+-- The fitted numbers, or the failure, are what the definition gives from these, and each row's results what it gives from these and that row.
+pub record ByDefinition (e : End) : Type 0 where
+  pub maxRt : take (e .input .files) (e .after .maxRt) ≡ map (λ (r : Alignment). r .«max_rt») (definition e .records)
+  pub slope : take (e .input .files) (e .after .slope) ≡ map (λ (r : Alignment). r .slope) (definition e .records)
+  pub intercept : take (e .input .files) (e .after .intercept) ≡ map (λ (r : Alignment). r .intercept) (definition e .records)
+  pub answer : e .answer ≡ Ran (definition e .retention .outcome) (definition e .mobility .outcome)
+  pub beta : (model : Model) → fits model (e .answer) ≡ true → take (orderOf model) (betaOf model (e .after)) ≡ fitOfModel model (definition e) .beta
+  pub aligned : (k : ℕ) → k < length (rows (e .input)) → getD (e .after .aligned) k nan ≡ outcome (e .input .table) (definition e) (rowAt (rows (e .input)) k) .aligned
+  pub predicted : (model : Model) (k : ℕ) → fits model (e .answer) ≡ true → k < length (rows (e .input))
+      → some (writtenFor model e k) ≡ resultOf model (outcome (e .input .table) (definition e) (rowAt (rows (e .input)) k))
+
+-- Demand 3, "one claim about the two ends"
+pub record Unmoved (a b : End) : Type 0 where
+  pub training-rows : training (rows (b .input)) ≡ training (rows (a .input))
+  pub fitted-numbers : SameFitted a b
+  pub untouched : (k l : ℕ) → k < length (rows (a .input)) → l < length (rows (b .input)) → rowAt (rows (a .input)) k ≡ rowAt (rows (b .input)) l → SameRow a b k l
+  pub first-end : ByDefinition a
+  pub second-end : ByDefinition b
