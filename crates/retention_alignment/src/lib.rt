@@ -24,7 +24,7 @@ pub enum AlignAnswer {
 }
 
 // A time by a file's record, each operation rounded in f32.
-fn aligned_time(a: Alignment, rt: f32) -> f32
+pub fn aligned_time(a: Alignment, rt: f32) -> f32
     ensures { λ r. ⌜ r ≡ alignedBy a rt ⌝ }
 {
     float::canonical32(rt / a.max_rt * a.slope + a.intercept)

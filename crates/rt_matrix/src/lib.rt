@@ -18,7 +18,8 @@ use feature::MAX_FILES;
 pub use mean::ABSENT;
 use sums::Sums;
 
-// A file's record: its longest time, and its line.
+// A file's record: its longest time, and its line. Hosts pass lists of it, hence the layout of C.
+#[repr(C)]
 pub struct Alignment {
     pub max_rt: f32,
     pub slope: f32,

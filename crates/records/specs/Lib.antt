@@ -1,0 +1,2 @@
+-- What a lookup in a list of records gives. Definitions only.
+pub mod Record

@@ -1,0 +1,47 @@
+// A row finds its file's record in a list of records: one lookup, and a row's aligned time by it.
+ghost use mathlib.Core.Path.{_≡_};
+ghost use Rattle.records.specs.Record.{recordOf, timeBy};
+use matrix::FileIx;
+pub use retention_alignment::Alignment;
+
+// What a lookup finds: the file's record, or the status for a file that has none.
+pub enum Found {
+    At(Alignment),
+    Refused(u8),
+}
+
+// A row's aligned time, or the status for a file that has no record.
+pub enum AlignedTime {
+    At(f32),
+    Refused(u8),
+}
+
+// The record of a file; BAD_FILE where the list ends before it.
+pub fn record_of(records: &[Alignment], file: u32) -> Found
+    ensures { λ r. ⌜ r ≡ recordOf (now (records .entry)) file ⌝ }
+{
+    let f = FileIx(file);
+    let i = f.0 as usize;
+    if i < records.len() {
+        Found::At(records[i])
+    } else {
+        Found::Refused(feature::BAD_FILE)
+    }
+}
+
+// A time by what a lookup found.
+pub fn time_by(found: Found, rt: f32) -> AlignedTime
+    ensures { λ r. ⌜ r ≡ timeBy found rt ⌝ }
+{
+    match found {
+        Found::At(a) => AlignedTime::At(retention_alignment::aligned_time(a, rt)),
+        Found::Refused(status) => AlignedTime::Refused(status),
+    }
+}
+
+// The aligned time of a row with this file and this time, by the record that the list has for the file.
+pub fn aligned(records: &[Alignment], file: u32, rt: f32) -> AlignedTime
+    ensures { λ r. ⌜ r ≡ timeBy (recordOf (now (records .entry)) file) rt ⌝ }
+{
+    time_by(record_of(records, file), rt)
+}
