@@ -2,4 +2,3 @@
 pub mod Count
 pub mod Classes
 pub mod Design
-pub mod Examples

@@ -1,3 +1,3 @@
 -- Laws that belong to no one function.
 pub mod Answer
-pub mod Examples
+pub mod Ridges

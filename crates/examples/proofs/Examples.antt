@@ -1,0 +1,26 @@
+-- Each of document 01's P examples holds. The list is walked by computation, so a wrong definition or a wrong number is refused. Assumes nothing.
+use mathlib.Core.Path.{_≡_, refl}
+use mathlib.Core.Bool.{true}
+use mathlib.Core.List.{zipWith, headD}
+use lib.Ieee.{sub, mul, div, le, ofInt, ofBits, toBits}
+use Rattle.float.specs.Convert.{narrowed, ceiling}
+use Rattle.float.specs.Value.{isFinite, isNormal}
+use Rattle.mass.specs.Mass.{columnOf, placeFrom, validAa}
+use Rattle.matrix.specs.Rows.{rowsOf, flat}
+use Rattle.feature.specs.Checks.{every}
+use Rattle.feature.specs.Feature.{trains, mask, kept}
+use Rattle.elimination.specs.Rows.{indexed, augmented, zipped}
+use Rattle.elimination.specs.Elimination.{largest, cleared, clearBelow, eliminated, echelonFrom, zeros, divided, lessMultiple, clearAbove, backfillFrom, rowSolved, solvedFrom, eliminate}
+use Rattle.elimination.specs.Ridge.{ridgesFrom, firstSolved}
+use Rattle.gauss.specs.Solve.{solutionOf}
+use Rattle.embedding.specs.Design.{design}
+use Rattle.rt_matrix.specs.Line.{tabulate, share, present, mean, keptRows, pointOf, points, finiteOr, lineOf, line, lines}
+use Rattle.retention_alignment.specs.Observation.{observations, maxRt, maxRts, times, smaller, minRt, minRts}
+use Rattle.retention_alignment.specs.Alignments.{alignments, alignedBy, aligned}
+use Rattle.retention_alignment.specs.Call.{firstFailed, statusOf, filled, slicesAfter}
+use Rattle.align_text.specs.AlignText.{alignText}
+use Rattle.examples.specs.Examples.{sameList, holds, examples}
+
+pub all-hold : every holds examples ≡ true
+unfolding every sameList examples zipWith headD sub mul div le ofInt ofBits toBits narrowed ceiling isFinite isNormal columnOf placeFrom validAa rowsOf flat trains mask kept indexed augmented zipped largest cleared clearBelow eliminated echelonFrom zeros divided lessMultiple clearAbove backfillFrom rowSolved solvedFrom eliminate ridgesFrom firstSolved solutionOf design tabulate share present mean keptRows pointOf points finiteOr lineOf line lines observations maxRt maxRts times smaller minRt minRts alignments alignedBy aligned firstFailed statusOf filled slicesAfter alignText
+all-hold = refl

@@ -1,0 +1,2 @@
+-- The theorem about document 01's examples.
+pub mod Examples

@@ -1,0 +1,187 @@
+-- Document 01's P examples in its order: numbers that the definitions give, beside the numbers that the document says. Definitions only.
+use Prim.Native.Nat.{ℕ}
+use Prim.Native.String.{String}
+use mathlib.Core.Bool.{Bool, true, false, _&&_}
+use mathlib.Core.List.{List, [], _∷_, _++_, map, foldl}
+use lib.Dec.{eqb}
+use lib.IntN.{pos}
+use lib.ListN.{length, replicate, take, drop}
+use lib.Ieee.{Float, Format, nan, binary32, binary64, add, ofBits, toBits}
+use Rattle.text.specs.Ascii.{ascii}
+use Rattle.embedding.specs.declared.Model.{Model}
+use Rattle.embedding.specs.declared.Model.the-variants.{Retention, Mobility}
+use Rattle.embedding.specs.Design.{cell, design, cTerminalAt}
+use Rattle.elimination.specs.Ridge.{Solution, solved, unsolved}
+use Rattle.gauss.specs.Solve.{solutionOf, statusFor, checked, needed, outputs}
+use Rattle.retention_alignment.specs.Observation.{maxRts}
+use Rattle.retention_alignment.specs.Call.{Input, Slices, rows, status, slicesAfter}
+use Rattle.align_text.specs.AlignText.{alignText}
+
+-- what the definitions give, and what document 01 says
+pub record Example : Type 0 where
+  pub given : List ℕ
+  pub said : List ℕ
+
+unfoldable pub sameList : List ℕ → List ℕ → Bool
+sameList [] [] = true
+sameList [] (y ∷ ys) = false
+sameList (x ∷ xs) [] = false
+sameList (x ∷ xs) (y ∷ ys) = eqb x y && sameList xs ys
+
+abbrev pub holds : Example → Bool
+holds e = sameList (e .given) (e .said)
+
+abbrev pub bits : Format → List Float → List ℕ
+bits f xs = map (toBits f) xs
+
+abbrev pub floats : Format → List ℕ → List Float
+floats f bs = map (ofBits f) bs
+
+-- ---- the alignment
+
+-- One file and so many peptides, with a row of peptide 0 for each of these times, given as the bits of an f32. Each row has label 1 and q 0.
+abbrev pub oneFile : ℕ → List ℕ → Input
+oneFile peptides times =
+    let n = length times in
+    record {
+      file = replicate n 0;
+      peptide = replicate n 0;
+      label = replicate n (pos 1);
+      q = floats binary32 (replicate n 0);
+      rt = floats binary32 times;
+      files = 1;
+      peptides = peptides;
+    }
+
+-- the longest times as whole numbers
+abbrev pub longest : Input → List ℕ
+longest i = maxRts (i .files) (rows i)
+
+-- slices of the needed lengths before a call, where there is one file: no cell holds a number
+abbrev pub unwritten : ℕ → List Float
+unwritten n = replicate n nan
+
+abbrev pub before : Input → Slices
+before i =
+    record {
+      workspace = unwritten (i .peptides);
+      maxRt = unwritten 1;
+      slope = unwritten 1;
+      intercept = unwritten 1;
+      aligned = unwritten (length (i .file));
+    }
+
+-- the outputs after the call
+abbrev pub after : Input → Slices
+after i = slicesAfter i (before i)
+
+-- the status, then as bits the file's longest time, slope and intercept, and the rows' aligned times
+abbrev pub alignment : Input → List ℕ
+alignment i = status i (before i) ∷ bits binary32 (after i .maxRt ++ after i .slope ++ after i .intercept ++ after i .aligned)
+
+-- ---- the program
+
+-- a text of these lines, each closed by LF
+abbrev pub text : List String → List ℕ
+text [] = []
+text (s ∷ ss) = ascii s ++ 10 ∷ text ss
+
+-- ---- the design rows
+
+-- k cells of a peptide's row from a column on. None of the examples looks at the log, the mass or the charge.
+abbrev pub cellsAt : Model → List ℕ → ℕ → ℕ → List Float
+cellsAt model letters at k = take k (drop at (design model letters (cell 0) (cell 0) 1))
+
+-- the C-terminal counts
+abbrev pub cTerminal : Model → List ℕ → List Float
+cTerminal model letters = cellsAt model letters (cTerminalAt model) 22
+
+abbrev pub total : List Float → Float
+total cells = foldl (add binary64) (cell 0) cells
+
+-- numbers as the bits of cells
+abbrev pub whole : List ℕ → List ℕ
+whole ns = bits binary64 (map cell ns)
+
+-- ---- the solver
+
+-- a status and, for a solved system, the ridge and the solution as bits
+abbrev pub answer : ℕ → Solution → List ℕ
+answer number (solved ridge cells) = number ∷ bits binary64 (ridge ∷ cells)
+answer number unsolved = number ∷ []
+
+-- of the system of order n with one right column, its sides given as bits
+abbrev pub solution : ℕ → List ℕ → List ℕ → List ℕ
+solution n left right =
+    let s = solutionOf n 1 (floats binary64 left) (floats binary64 right) in
+    answer (statusFor (checked (length left) (length right) n 1 (needed n 1) (outputs n 1)) s) s
+
+-- the bits of 1E-8, -1E-8, 1.0, -1.0, 5.0 and a NaN
+abbrev pub tiny : ℕ
+tiny = 0x3E45_798E_E230_8C3A
+
+abbrev pub minusTiny : ℕ
+minusTiny = 0xBE45_798E_E230_8C3A
+
+abbrev pub one : ℕ
+one = 0x3FF0_0000_0000_0000
+
+abbrev pub minusOne : ℕ
+minusOne = 0xBFF0_0000_0000_0000
+
+abbrev pub five : ℕ
+five = 0x4014_0000_0000_0000
+
+abbrev pub aNaN : ℕ
+aNaN = 0x7FF8_0000_0000_0000
+
+-- ---- the list
+
+unfoldable pub examples : List Example
+examples =
+    -- "time 9.2 gives longest 10": the f32 nearest to 9.2
+    record { given = longest (oneFile 1 (0x4113_3333 ∷ [])); said = 10 ∷ [] }
+    -- "-3.0 gives 0"
+    ∷ record { given = longest (oneFile 1 (0xC040_0000 ∷ [])); said = 0 ∷ [] }
+    -- "5E9 gives 4,294,967,295, in f32 4,294,967,296", of which the bits are 4F800000
+    ∷ record {
+      given = longest (oneFile 1 (0x4F95_02F9 ∷ [])) ++ bits binary32 (after (oneFile 1 (0x4F95_02F9 ∷ [])) .maxRt);
+      said = 4_294_967_295 ∷ 0x4F80_0000 ∷ [];
+    }
+    -- "no rows: slope 1, intercept 0, longest 0", without peptides and with one
+    ∷ record {
+      given = alignment (oneFile 0 []) ++ alignment (oneFile 1 []);
+      said = 0 ∷ 0 ∷ 0x3F80_0000 ∷ 0 ∷ 0 ∷ 0 ∷ 0x3F80_0000 ∷ 0 ∷ [];
+    }
+    -- "the program's row": its text, and the text that is printed
+    ∷ record {
+      given = alignText (text ("files=1" ∷ "peptides=1" ∷ "file=0" ∷ "peptide=0" ∷ "label=1" ∷ "q=00000000" ∷ "rt=41200000" ∷ []));
+      said = text ("status=0" ∷ "file=0" ∷ "max=41200000" ∷ "slope=00000000" ∷ "intercept=3F800000" ∷ "aligned=3F800000" ∷ []);
+    }
+    -- "ACDK: retention C-terminal holds D only": D is in column 2
+    ∷ record { given = bits binary64 (cTerminal Retention (ascii "ACDK")); said = whole (0 ∷ 0 ∷ 1 ∷ replicate 19 0) }
+    -- "mobility holds D and K, bulky 1, branched 1, tiny 1, positive 0": K is in column 8, the classes in 91, 88, 89 and 92
+    ∷ record {
+      given =
+          bits binary64
+          (cTerminal Mobility (ascii "ACDK")
+          ++ cellsAt Mobility (ascii "ACDK") 91 1
+          ++ cellsAt Mobility (ascii "ACDK") 88 1
+          ++ cellsAt Mobility (ascii "ACDK") 89 1
+          ++ cellsAt Mobility (ascii "ACDK") 92 1);
+      said = whole ((0 ∷ 0 ∷ 1 ∷ 0 ∷ 0 ∷ 0 ∷ 0 ∷ 0 ∷ 1 ∷ replicate 13 0) ++ 1 ∷ 1 ∷ 1 ∷ 0 ∷ []);
+    }
+    -- "ACD: retention C-terminal total 0, mobility 1"
+    ∷ record {
+      given = bits binary64 (total (cTerminal Retention (ascii "ACD")) ∷ total (cTerminal Mobility (ascii "ACD")) ∷ []);
+      said = whole (0 ∷ 1 ∷ []);
+    }
+    -- "BJ: count of A is 2", in both models: A is in column 0
+    ∷ record { given = bits binary64 (cellsAt Retention (ascii "BJ") 0 1 ++ cellsAt Mobility (ascii "BJ") 0 1); said = whole (2 ∷ 2 ∷ []) }
+    -- "left -1E-8, right 5.0: ridge 1E-8, solution 5.0"
+    ∷ record { given = solution 1 (minusTiny ∷ []) (five ∷ []); said = 0 ∷ tiny ∷ five ∷ [] }
+    -- "left diagonal (-1, 1), zeros beside: 9"
+    ∷ record { given = solution 2 (minusOne ∷ 0 ∷ 0 ∷ one ∷ []) (one ∷ one ∷ []); said = 9 ∷ [] }
+    -- "left NaN: 9"
+    ∷ record { given = solution 1 (aNaN ∷ []) (one ∷ []); said = 9 ∷ [] }
+    ∷ []

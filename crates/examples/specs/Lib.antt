@@ -1,0 +1,2 @@
+-- Document 01's examples, over the definitions of the crates below.
+pub mod Examples
