@@ -10,70 +10,6 @@ const ROWS: usize = 1024;
 
 const CELLS: usize = 8192;
 
-// The pattern of an f32, a u32 or an i32, which stands in a token with zeros in front.
-fn low32(v: u64) -> u32 {
-    (v % 4294967296) as u32
-}
-
-// The i32 with the pattern b.
-fn signed(b: u32) -> i32 {
-    if b < 2147483648 {
-        return b as i32;
-    }
-    -1 - (4294967295 - b) as i32
-}
-
-fn read_u32s(out: &mut [u32]) -> bool {
-    let mut i = 0usize;
-    while i < out.len() {
-        let Token::Value(v) = vectors::read_token() else {
-            return false;
-        };
-        out[i] = low32(v);
-        i += 1;
-    }
-    true
-}
-
-fn read_i32s(out: &mut [i32]) -> bool {
-    let mut i = 0usize;
-    while i < out.len() {
-        let Token::Value(v) = vectors::read_token() else {
-            return false;
-        };
-        out[i] = signed(low32(v));
-        i += 1;
-    }
-    true
-}
-
-fn read_f32s(out: &mut [f32]) -> bool {
-    let mut i = 0usize;
-    while i < out.len() {
-        let Token::Value(v) = vectors::read_token() else {
-            return false;
-        };
-        out[i] = float::from_bits32(low32(v));
-        i += 1;
-    }
-    true
-}
-
-fn write_f32s(xs: &[f32]) {
-    let mut i = 0usize;
-    while i < xs.len() {
-        vectors::write_f32(xs[i]);
-        i += 1;
-    }
-}
-
-// Writes the first n cells.
-fn write_first(xs: &[f32], n: usize) {
-    if n <= xs.len() {
-        write_f32s(&xs[..n]);
-    }
-}
-
 // Aligns the columns, and writes what the call leaves in the slices.
 fn answer(
     file: &[u32],
@@ -107,10 +43,10 @@ fn answer(
         AlignAnswer::Refused(n) => vectors::write_token(n as u64),
         AlignAnswer::Accepted => {
             vectors::write_token(0);
-            write_first(&max_rt, files);
-            write_first(&slope, files);
-            write_first(&intercept, files);
-            write_first(&aligned, file.len());
+            vectors::write_first_f32s(&max_rt, files);
+            vectors::write_first_f32s(&slope, files);
+            vectors::write_first_f32s(&intercept, files);
+            vectors::write_first_f32s(&aligned, file.len());
         }
     }
 }
@@ -125,19 +61,19 @@ fn replay_columns(
     files: usize,
     peptides: usize,
 ) -> bool {
-    if !read_u32s(file) {
+    if !vectors::read_u32s(file) {
         return false;
     }
-    if !read_u32s(peptide) {
+    if !vectors::read_u32s(peptide) {
         return false;
     }
-    if !read_i32s(label) {
+    if !vectors::read_i32s(label) {
         return false;
     }
-    if !read_f32s(q) {
+    if !vectors::read_f32s(q) {
         return false;
     }
-    if !read_f32s(rt) {
+    if !vectors::read_f32s(rt) {
         return false;
     }
     answer(file, peptide, label, q, rt, files, peptides);

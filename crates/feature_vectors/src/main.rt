@@ -2,21 +2,11 @@
 use vectors::Next;
 use vectors::Record;
 
-fn low32(v: u64) -> u32 {
-    (v % 4294967296) as u32
-}
-
-// The i32 with these bits.
-fn signed(bits: u32) -> i32 {
-    if bits < 0x8000_0000 {
-        bits as i32
-    } else {
-        -1 - ((0xffff_ffff - bits) as i32)
-    }
-}
-
 fn answer(r: Record) -> u64 {
-    feature::trains(signed(low32(r.a)), float::from_bits32(low32(r.b))) as u64
+    feature::trains(
+        vectors::signed(vectors::low32(r.a)),
+        float::from_bits32(vectors::low32(r.b)),
+    ) as u64
 }
 
 // Answers one line, and says whether there was one.

@@ -3,13 +3,8 @@
 use vectors::Next;
 use vectors::Record;
 
-// The pattern of an f32 or a u32, which stands in a record with zeros in front.
-fn low32(v: u64) -> u32 {
-    (v % 4294967296) as u32
-}
-
 fn f32_of(v: u64) -> f32 {
-    float::from_bits32(low32(v))
+    float::from_bits32(vectors::low32(v))
 }
 
 fn answer(r: Record) -> u64 {
@@ -20,8 +15,8 @@ fn answer(r: Record) -> u64 {
     match op {
         1 => float::bits32(float::narrow(x)) as u64,
         2 => float::ceil_to_u32(y) as u64,
-        3 => float::bits64(float::u32_to_f64(low32(a))),
-        4 => float::bits32(float::u32_to_f32(low32(a))) as u64,
+        3 => float::bits64(float::u32_to_f64(vectors::low32(a))),
+        4 => float::bits32(float::u32_to_f32(vectors::low32(a))) as u64,
         5 => float::is_finite64(x) as u64,
         6 => float::is_normal64(x) as u64,
         7 => float::bits32(float::abs32(y)) as u64,

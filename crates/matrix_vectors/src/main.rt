@@ -5,10 +5,6 @@ use vectors::Next;
 // The answer where there is none.
 const NONE: u64 = 0xffff_ffff_ffff_ffff;
 
-fn low32(v: u64) -> u32 {
-    (v % 4294967296) as u32
-}
-
 // A cell of the matrix that lies in the first cells.
 fn cell(cells: &[f64], rows: u32, cols: u32, row: u32, col: u32) -> u64 {
     if rows > 1024 {
@@ -35,10 +31,10 @@ fn replay(cells: &[f64; 1024]) -> bool {
     let shape = r.c;
     vectors::write_token(cell(
         cells,
-        low32(shape / 4294967296),
-        low32(shape),
-        low32(r.a),
-        low32(r.b),
+        vectors::low32(shape / 4294967296),
+        vectors::low32(shape),
+        vectors::low32(r.a),
+        vectors::low32(r.b),
     ));
     true
 }

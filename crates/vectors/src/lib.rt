@@ -1,6 +1,10 @@
 // Records of fixed width from standard input, and answers to standard output, for the programs that
 // replay stored answers. All numbers are upper-case hex digits. What is read or written no contract
-// can say, so the contracts here say nothing; each function is proved safe.
+// can say, so the contracts here say no more than what a number is made of; each function is proved safe.
+ghost use mathlib.Core.Path.{_≡_};
+ghost use Prim.Native.Nat.{_%_};
+ghost use mir.Syntax.{w32};
+ghost use mir.Val.{toZ};
 use float::HexRead;
 use libc::STDIN_FILENO;
 use libc::STDOUT_FILENO;
@@ -60,7 +64,72 @@ pub fn read_token() -> Token {
     }
 }
 
-// Fills out with the next lines' values, and answers whether there were enough of them.
+// The pattern of an f32, a u32 or an i32, which stands in a token or a record with zeros in front.
+pub fn low32(v: u64) -> u32
+    ensures { λ r. ⌜ r ≡ v % 4294967296 ⌝ }
+{
+    (v % 4294967296) as u32
+}
+
+// The i32 with the pattern b.
+pub fn signed(b: u32) -> i32
+    ensures { λ r. ⌜ r ≡ toZ w32 b ⌝ }
+{
+    if b < 2147483648 {
+        return b as i32;
+    }
+    -1 - (4294967295 - b) as i32
+}
+
+// Each of these fills out with the next lines' values, and answers whether there were enough of them.
+pub fn read_u8s(out: &mut [u8]) -> bool {
+    let mut i = 0usize;
+    while i < out.len() {
+        let Token::Value(v) = read_token() else {
+            return false;
+        };
+        out[i] = (v % 256) as u8;
+        i += 1;
+    }
+    true
+}
+
+pub fn read_u32s(out: &mut [u32]) -> bool {
+    let mut i = 0usize;
+    while i < out.len() {
+        let Token::Value(v) = read_token() else {
+            return false;
+        };
+        out[i] = low32(v);
+        i += 1;
+    }
+    true
+}
+
+pub fn read_i32s(out: &mut [i32]) -> bool {
+    let mut i = 0usize;
+    while i < out.len() {
+        let Token::Value(v) = read_token() else {
+            return false;
+        };
+        out[i] = signed(low32(v));
+        i += 1;
+    }
+    true
+}
+
+pub fn read_f32s(out: &mut [f32]) -> bool {
+    let mut i = 0usize;
+    while i < out.len() {
+        let Token::Value(v) = read_token() else {
+            return false;
+        };
+        out[i] = float::from_bits32(low32(v));
+        i += 1;
+    }
+    true
+}
+
 pub fn read_f64s(out: &mut [f64]) -> bool {
     let mut i = 0;
     while i < out.len() {
@@ -102,5 +171,20 @@ pub fn write_f64s(xs: &[f64]) {
     while i < xs.len() {
         write_f64(xs[i]);
         i += 1;
+    }
+}
+
+pub fn write_f32s(xs: &[f32]) {
+    let mut i = 0usize;
+    while i < xs.len() {
+        write_f32(xs[i]);
+        i += 1;
+    }
+}
+
+// Writes the first n cells; nothing where there are fewer.
+pub fn write_first_f32s(xs: &[f32], n: usize) {
+    if n <= xs.len() {
+        write_f32s(&xs[..n]);
     }
 }

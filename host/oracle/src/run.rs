@@ -9,6 +9,7 @@ use sage::peptide::Peptide;
 use sage::scoring::Feature;
 
 /// A run's input: the file count, the peptide table and the rows.
+#[derive(Clone)]
 pub struct Batch {
     pub files: usize,
     pub peptides: Vec<Peptide>,

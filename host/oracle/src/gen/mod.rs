@@ -1,6 +1,7 @@
 //! Generators of cases. Each has a fixed seed, so `vectors` writes the same files every time.
 
 pub mod alignment;
+pub mod edits;
 pub mod float;
 pub mod gauss;
 pub mod leaves;

@@ -1,6 +1,8 @@
-//! Batches for whole runs: plain ones, and ones with nasty peptides, times, charges and mobilities.
+//! Batches for whole runs: plain ones, ones with nasty peptides, times, charges and mobilities, and
+//! pairs that differ by edits.
 
 use super::alignment::{nasty_q, nasty_time, plain};
+use super::edits;
 use super::pools::edge32;
 use crate::rng::Rng;
 use crate::run::{run, Batch, Fit};
@@ -33,8 +35,9 @@ pub fn tally() -> String {
         format!("{by_ridge}, 8: {none}, 9: {}", count(&|fit| matches!(fit, Fit::NotSolved)))
     };
     format!(
-        "{} runs; retention{}; mobility{}",
+        "{} runs, the last {} of them in pairs; retention{}; mobility{}",
         runs.len(),
+        2 * edits::PAIRS,
         fits(|r| &r.retention),
         fits(|r| &r.mobility)
     )
@@ -61,11 +64,12 @@ fn batches() -> Vec<Batch> {
     all.extend((0..4).map(|_| odd_peptides(r)));
     all.push(batch(r, 3, 120, 300));
     all.push(batch(r, 5, 60, 400));
+    all.extend(edits::stored().into_iter().flat_map(|pair| [pair.before, pair.after]));
     all
 }
 
 /// A plain batch; the mobilities follow mass and charge.
-fn batch(r: &mut Rng, files: usize, peptides: usize, rows: usize) -> Batch {
+pub fn batch(r: &mut Rng, files: usize, peptides: usize, rows: usize) -> Batch {
     let mut rows = plain(r, files, peptides, rows).rows;
     let peptides: Vec<Peptide> = (0..peptides).map(|_| peptide(r)).collect();
     for row in &mut rows {
@@ -112,7 +116,7 @@ fn leave(r: &mut Rng, row: &mut crate::alignment::Row) {
     }
 }
 
-fn one_training_row(r: &mut Rng) -> Batch {
+pub fn one_training_row(r: &mut Rng) -> Batch {
     let mut batch = batch(r, 2, 4, 9);
     let only = r.below(9);
     for (i, row) in batch.rows.iter_mut().enumerate() {
@@ -124,7 +128,7 @@ fn one_training_row(r: &mut Rng) -> Batch {
     batch
 }
 
-fn without_training(r: &mut Rng) -> Batch {
+pub fn without_training(r: &mut Rng) -> Batch {
     let rows = r.range(1, 12);
     let mut batch = batch(r, 2, 4, rows);
     batch.rows.iter_mut().for_each(|row| leave(r, row));
@@ -132,7 +136,7 @@ fn without_training(r: &mut Rng) -> Batch {
 }
 
 /// The second half of the peptides is nasty, and every row of theirs is outside the training set.
-fn nasty_outside(r: &mut Rng) -> Batch {
+pub fn nasty_outside(r: &mut Rng) -> Batch {
     let (files, rows) = (r.range(1, 3), r.range(20, 60));
     let mut batch = batch(r, files, 16, rows);
     batch.peptides[8..].iter_mut().for_each(|peptide| *peptide = nasty_peptide(r));
@@ -146,7 +150,7 @@ fn nasty_outside(r: &mut Rng) -> Batch {
 }
 
 /// Some rows, training ones too, with nasty times and q.
-fn nasty_times(r: &mut Rng) -> Batch {
+pub fn nasty_times(r: &mut Rng) -> Batch {
     let mut batch = batch(r, 3, 10, 40);
     for row in &mut batch.rows {
         if r.one_in(10) {
@@ -160,7 +164,7 @@ fn nasty_times(r: &mut Rng) -> Batch {
 }
 
 /// Some rows, training ones too, with nasty mobilities or the largest charge.
-fn nasty_mobilities(r: &mut Rng) -> Batch {
+pub fn nasty_mobilities(r: &mut Rng) -> Batch {
     let mut batch = batch(r, 2, 10, 40);
     for row in &mut batch.rows {
         if r.one_in(8) {
@@ -174,7 +178,7 @@ fn nasty_mobilities(r: &mut Rng) -> Batch {
 }
 
 /// A training row with an empty peptide, charge 0 or a mass that no sum survives.
-fn unsolvable(r: &mut Rng, i: usize) -> Batch {
+pub fn unsolvable(r: &mut Rng, i: usize) -> Batch {
     let mut batch = batch(r, 2, 6, 20);
     let at = batch.rows[0].peptide.0 as usize;
     (batch.rows[0].label, batch.rows[0].q) = (1, 0.0);
@@ -199,7 +203,7 @@ fn late() -> Vec<Batch> {
 }
 
 /// One mass so large that rounding leaves what a small ridge can't lift.
-fn heavy(r: &mut Rng) -> Batch {
+pub fn heavy(r: &mut Rng) -> Batch {
     let mut batch = batch(r, 2, 6, 16);
     let mass = format!("1e{}", r.range(8, 38)).parse();
     batch.peptides[0].monoisotopic = mass.expect("a power of ten");

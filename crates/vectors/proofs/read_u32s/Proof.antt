@@ -1,11 +1,11 @@
--- `alignment_vectors::read_i32s` is safe and ends. The loop's invariant: i is within the slice, whose length is as it was. Assumes nothing.
+-- `vectors::read_u32s` is safe and ends. The loop's invariant: i is within the slice, whose length is as it was. Assumes nothing.
 use mathlib.Core.Path.{_≡_, refl}
 use Prim.Native.Nat.{_+_, _-_, _≤_, _<_}
 use native.Mathlib.Omega.{arith}
 use borrow.Author.Needs.{needs}
 use lib.ListN.{length, length-set}
-use Rattle.alignment_vectors.proofs.read_i32s.Statement.{statement}
-use Rattle.alignment_vectors.proofs.read_i32s.Tie as tie
+use Rattle.vectors.proofs.read_u32s.Statement.{statement}
+use Rattle.vectors.proofs.read_u32s.Tie as tie
 
 abbrev Inv-loop : tie.InvT-loop
 Inv-loop out₀ i₀ out i = (i ≤ length out₀) × (length out ≡ length out₀)
@@ -34,14 +34,11 @@ returns c = search needs
 low32-requires : tie.Need-low32-requires Inv-loop μ-loop
 low32-requires c κs = search needs
 
-signed-requires : tie.Need-signed-requires Inv-loop μ-loop
-signed-requires c κs = search needs
+mul-out : tie.Need-mul-out Inv-loop μ-loop
+mul-out c = search needs
 
-mul-t4 : tie.Need-mul-t4 Inv-loop μ-loop
-mul-t4 c = search needs
-
-slice-set-from-out : tie.Need-slice-set-from-out Inv-loop μ-loop
-slice-set-from-out c = search needs
+slice-write-out : tie.Need-slice-write-out Inv-loop μ-loop
+slice-write-out c = search needs
 
 add-i : tie.Need-add-i Inv-loop μ-loop
 add-i c = search needs
@@ -58,8 +55,8 @@ same-length-2 c = search needs
 returns-2 : tie.Need-returns-2 Inv-loop μ-loop
 returns-2 c = search needs
 
-pub read-i32s-spec : {M : Type 1} → statement M
-read-i32s-spec =
+pub read-u32s-spec : {M : Type 1} → statement M
+read-u32s-spec =
     tie.close
     (tie.spec
     Inv-loop
@@ -71,9 +68,8 @@ read-i32s-spec =
     same-length
     returns
     low32-requires
-    signed-requires
-    mul-t4
-    slice-set-from-out
+    mul-out
+    slice-write-out
     add-i
     loop-less
     loop-again

@@ -1,10 +1,10 @@
--- `alignment_vectors::write_first` is safe. Assumes nothing.
+-- `vectors::write_first_f32s` is safe. Assumes nothing.
 use mathlib.Core.Path.{sym}
 use native.Mathlib.Omega.{arith}
 use lib.Seq.{length-take-le}
 use borrow.Author.Needs.{needs}
-use Rattle.alignment_vectors.proofs.write_first.Statement.{statement}
-use Rattle.alignment_vectors.proofs.write_first.Tie as tie
+use Rattle.vectors.proofs.write_first_f32s.Statement.{statement}
+use Rattle.vectors.proofs.write_first_f32s.Tie as tie
 
 slice-aggregate-write-f32s : tie.Need-slice-aggregate-write-f32s
 slice-aggregate-write-f32s c = sym (length-take-le _ _ (omega arith))
@@ -18,6 +18,6 @@ returns c = search needs
 returns-2 : tie.Need-returns-2
 returns-2 c = search needs
 
-pub write-first-spec : {M : Type 1} → statement M
-write-first-spec =
+pub write-first-f32s-spec : {M : Type 1} → statement M
+write-first-f32s-spec =
     tie.close (tie.spec slice-aggregate-write-f32s write-f32s-requires returns returns-2)

@@ -1,11 +1,11 @@
--- `alignment_vectors::read_f32s` is safe and ends. The loop's invariant: i is within the slice, whose length is as it was. Assumes nothing.
+-- `vectors::read_f32s` is safe and ends. The loop's invariant: i is within the slice, whose length is as it was. Assumes nothing.
 use mathlib.Core.Path.{_≡_, refl}
 use Prim.Native.Nat.{_+_, _-_, _≤_, _<_}
 use native.Mathlib.Omega.{arith}
 use borrow.Author.Needs.{needs}
 use lib.ListN.{length, length-set}
-use Rattle.alignment_vectors.proofs.read_f32s.Statement.{statement}
-use Rattle.alignment_vectors.proofs.read_f32s.Tie as tie
+use Rattle.vectors.proofs.read_f32s.Statement.{statement}
+use Rattle.vectors.proofs.read_f32s.Tie as tie
 
 abbrev Inv-loop : tie.InvT-loop
 Inv-loop out₀ i₀ out i = (i ≤ length out₀) × (length out ≡ length out₀)

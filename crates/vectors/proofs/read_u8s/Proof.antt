@@ -1,11 +1,11 @@
--- `alignment_vectors::read_u32s` is safe and ends. The loop's invariant: i is within the slice, whose length is as it was. Assumes nothing.
+-- `vectors::read_u8s` is safe and ends. The loop's invariant: i is within the slice, whose length is as it was. Assumes nothing.
 use mathlib.Core.Path.{_≡_, refl}
 use Prim.Native.Nat.{_+_, _-_, _≤_, _<_}
 use native.Mathlib.Omega.{arith}
 use borrow.Author.Needs.{needs}
 use lib.ListN.{length, length-set}
-use Rattle.alignment_vectors.proofs.read_u32s.Statement.{statement}
-use Rattle.alignment_vectors.proofs.read_u32s.Tie as tie
+use Rattle.vectors.proofs.read_u8s.Statement.{statement}
+use Rattle.vectors.proofs.read_u8s.Tie as tie
 
 abbrev Inv-loop : tie.InvT-loop
 Inv-loop out₀ i₀ out i = (i ≤ length out₀) × (length out ≡ length out₀)
@@ -31,11 +31,8 @@ same-length c = search needs
 returns : tie.Need-returns Inv-loop μ-loop
 returns c = search needs
 
-low32-requires : tie.Need-low32-requires Inv-loop μ-loop
-low32-requires c κs = search needs
-
-mul-out : tie.Need-mul-out Inv-loop μ-loop
-mul-out c = search needs
+cast-out : tie.Need-cast-out Inv-loop μ-loop
+cast-out c = search needs
 
 slice-write-out : tie.Need-slice-write-out Inv-loop μ-loop
 slice-write-out c = search needs
@@ -55,8 +52,8 @@ same-length-2 c = search needs
 returns-2 : tie.Need-returns-2 Inv-loop μ-loop
 returns-2 c = search needs
 
-pub read-u32s-spec : {M : Type 1} → statement M
-read-u32s-spec =
+pub read-u8s-spec : {M : Type 1} → statement M
+read-u8s-spec =
     tie.close
     (tie.spec
     Inv-loop
@@ -67,8 +64,7 @@ read-u32s-spec =
     enum-told
     same-length
     returns
-    low32-requires
-    mul-out
+    cast-out
     slice-write-out
     add-i
     loop-less

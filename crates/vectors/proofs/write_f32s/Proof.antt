@@ -1,9 +1,9 @@
--- `alignment_vectors::write_f32s` is safe and ends. Assumes nothing.
+-- `vectors::write_f32s` is safe and ends. Assumes nothing.
 use Prim.Native.Nat.{_-_, _≤_}
 use borrow.Author.Needs.{needs}
 use lib.ListN.{length}
-use Rattle.alignment_vectors.proofs.write_f32s.Statement.{statement}
-use Rattle.alignment_vectors.proofs.write_f32s.Tie as tie
+use Rattle.vectors.proofs.write_f32s.Statement.{statement}
+use Rattle.vectors.proofs.write_f32s.Tie as tie
 
 abbrev Inv-loop : tie.InvT-loop
 Inv-loop xs i₀ i = i ≤ length xs
