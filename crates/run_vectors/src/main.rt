@@ -222,7 +222,6 @@ fn replay_batch(
     logs: &mut [f64],
     held: f32,
 ) -> bool {
-    let _k = 1u8;
     if !read_table(letters, offsets, masses, logs) {
         return false;
     }
