@@ -33,7 +33,7 @@ use Rattle.models.specs.Prediction.{predictions, errors, errorOf, isSolved, pre
 use Rattle.models.specs.Call.{PredictCall, predictStatus}
 use Rattle.models.specs.declared.FitAnswer.{FitAnswer}
 use Rattle.run.specs.Fitted.{RowOutcome, rowQuery, rowSample, target, fitTo, recordsOf, fitted, fitOfModel, outcome}
-use Rattle.run.specs.Call.{Input, Slices, rows, peptides, neededCells, roomOf, fittedBy, outcomes, predictionsOf, errorsOf, outcomeOf, answerOf, filled, Filled, slicesAfter, RunCall, status}
+use Rattle.run.specs.Call.{Input, Slices, rows, peptides, neededCells, roomOf, fittedBy, outcomes, predictionsOf, errorsOf, outcomeOf, answerOf, toldOf, toldRefused, toldBy, filled, Filled, slicesAfter, RunCall, status}
 use Rattle.run.specs.declared.RunAnswer.{RunAnswer}
 use Rattle.run.specs.declared.RunAnswer.the-variants.{Ran, Refused}
 use Rattle.run.proofs.Rows.{retention-queries, mobility-queries, samples-of, mobility-samples, mobility-predictions, predictionsFor, predictions-written, errors-written}
@@ -211,6 +211,7 @@ run-refused i s n e h =
     let same : s ≡ slicesAfter i s = sym (ap (λ (b : Bool). cond b (filled i s) s) test) in
     record {
       answer = ap Refused e ∙ sym (ap (λ (b : Bool). cond b (Ran (fittedBy i .retention .outcome) (fittedBy i .mobility .outcome)) (Refused (status i s))) test);
+      told = ap toldRefused e ∙ sym (ap (λ (b : Bool). cond b (toldOf (fittedBy i .retention .outcome) (fittedBy i .mobility .outcome)) (toldRefused (status i s))) test);
       workspace = ap (λ (t : Slices). t .workspace) same;
       maxRt = ap (λ (t : Slices). t .maxRt) same;
       slope = ap (λ (t : Slices). t .slope) same;
@@ -231,6 +232,7 @@ run-accepted i s t r e f =
     let now : filled i s ≡ slicesAfter i s = sym (ap (λ (b : Bool). cond b (filled i s) s) test) in
     record {
       answer = f .answer ∙ sym (ap (λ (b : Bool). cond b (Ran (fittedBy i .retention .outcome) (fittedBy i .mobility .outcome)) (Refused (status i s))) test);
+      told = ap toldBy (f .answer) ∙ sym (ap (λ (b : Bool). cond b (toldOf (fittedBy i .retention .outcome) (fittedBy i .mobility .outcome)) (toldRefused (status i s))) test);
       workspace = f .workspace ∙ ap (λ (u : Slices). u .workspace) now;
       maxRt = f .maxRt ∙ ap (λ (u : Slices). u .maxRt) now;
       slope = f .slope ∙ ap (λ (u : Slices). u .slope) now;

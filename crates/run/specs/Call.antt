@@ -2,6 +2,7 @@
 use mathlib.Core.Path.{_≡_}
 use mathlib.Core.Bool.{Bool, _&&_, cond}
 use mathlib.Core.List.{List, [], _∷_, map}
+use mathlib.Core.Option.{Option, none}
 use Prim.Native.Nat.{ℕ, _*_, max}
 use lib.Dec.{eqb, leb}
 use lib.IntN.{ℤ}
@@ -17,7 +18,7 @@ use Rattle.embedding.specs.declared.Model.{Model}
 use Rattle.embedding.specs.declared.Model.the-variants.{Retention, Mobility}
 use Rattle.rt_matrix.specs.Line.{present}
 use Rattle.rt_matrix.specs.declared.Alignment.{Alignment}
-use Rattle.regression.specs.Regression.{statusOf as outcomeStatus}
+use Rattle.regression.specs.Regression.{Values, valuesOf, statusOf as outcomeStatus}
 use Rattle.regression.specs.declared.FitOutcome.{FitOutcome}
 use Rattle.regression.specs.declared.FitOutcome.the-variants.{NotSolved}
 use Rattle.model_fit.specs.Input.{firstFailing, workspaceCells}
@@ -128,15 +129,34 @@ fittedBy i = fitted (i .files) (i .table) (longest (i .files) (rows i)) (trainin
 unfoldable pub answerOf : (status : ℕ) → FittedNumbers → RunAnswer
 answerOf s f = cond (eqb s accepted) (Ran (f .retention .outcome) (f .mobility .outcome)) (Refused s)
 
--- document 01's number for the alignment and for the fit of each model
-pub record Numbers : Type 0 where
+-- what an answer tells: document 01's number for the alignment and for the fit of each model, and the values of a fit that is solved
+pub record Told : Type 0 where
   pub alignment : ℕ
   pub retention : ℕ
   pub mobility : ℕ
+  pub retentionValues : Option Values
+  pub mobilityValues : Option Values
 
-abbrev pub numbersOf : RunAnswer → Numbers
-numbersOf (Ran retention mobility) = record { alignment = accepted; retention = outcomeStatus retention; mobility = outcomeStatus mobility }
-numbersOf (Refused n) = record { alignment = n; retention = n; mobility = n }
+abbrev pub toldOf : (retention mobility : FitOutcome) → Told
+toldOf retention mobility =
+    record {
+      alignment = accepted;
+      retention = outcomeStatus retention;
+      mobility = outcomeStatus mobility;
+      retentionValues = valuesOf retention;
+      mobilityValues = valuesOf mobility;
+    }
+
+abbrev pub toldRefused : ℕ → Told
+toldRefused n = record { alignment = n; retention = n; mobility = n; retentionValues = none; mobilityValues = none }
+
+-- by every case of the answer, and by the status
+abbrev pub toldBy : RunAnswer → Told
+toldBy (Ran retention mobility) = toldOf retention mobility
+toldBy (Refused n) = toldRefused n
+
+abbrev pub toldFor : (status : ℕ) → FittedNumbers → Told
+toldFor s f = cond (eqb s accepted) (toldOf (f .retention .outcome) (f .mobility .outcome)) (toldRefused s)
 
 -- ---- the slices
 
@@ -196,9 +216,10 @@ pub record Filled (i : Input) (before after : Slices) (r : RunAnswer) : Type 0 w
 unfoldable pub slicesAfter : Input → Slices → Slices
 slicesAfter i s = cond (eqb (status i s) accepted) (filled i s) s
 
--- The contract: the answer, and every slice, each cell of it.
+-- The contract: the answer, what it tells, and every slice, each cell of it.
 pub record RunCall (i : Input) (before after : Slices) (r : RunAnswer) : Type 0 where
   pub answer : r ≡ answerOf (status i before) (fittedBy i)
+  pub told : toldBy r ≡ toldFor (status i before) (fittedBy i)
   pub workspace : after .workspace ≡ slicesAfter i before .workspace
   pub maxRt : after .maxRt ≡ slicesAfter i before .maxRt
   pub slope : after .slope ≡ slicesAfter i before .slope
