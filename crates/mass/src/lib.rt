@@ -5,8 +5,9 @@ ghost use Rattle.mass.specs.Mass.{columnOf, isLetter, residueAt};
 // The residues that have a column of their own, in the order of their columns.
 pub const VALID_AA: [u8; 22] = *b"ACDEFGHIKLMNPQRSTVWYUO";
 
-// The column of each letter from A to Z: its place in VALID_AA; B, J, X and Z have A's.
-const COLUMNS: [usize; 26] = [
+// The column of each letter from A to Z: its place in VALID_AA; B, J, X and Z have A's. Bytes, since compiled
+// code lays the table out anew for each lookup.
+const COLUMNS: [u8; 26] = [
     0, // A
     0, // B
     1, // C
@@ -48,6 +49,13 @@ pub fn is_letter(byte: u8) -> bool
     b'A' <= byte && byte <= b'Z'
 }
 
+// A byte as an index.
+fn wide(x: u8) -> usize
+    ensures { λ r. ⌜ r ≡ x ⌝ }
+{
+    x as usize
+}
+
 // The column of a residue's letter: below 22 for every byte, and 0 for one that is not in VALID_AA.
 pub fn column(letter: u8) -> usize
     ensures { λ r. ⌜ r ≡ columnOf letter ⌝ }
@@ -59,7 +67,7 @@ pub fn column(letter: u8) -> usize
         return 0;
     }
     let at = (letter - b'A') as usize;
-    COLUMNS[at]
+    wide(COLUMNS[at])
 }
 
 // The residue that a column stands for.

@@ -37,15 +37,15 @@ returns-2 c = sym (column-outside (c .before .before .args .letter) (inr (c .if2
 cast-at : tie.Need-cast-at
 cast-at c = search needs
 
-mul-result : tie.Need-mul-result
-mul-result c = search needs
+array-read-wide : tie.Need-array-read-wide
+array-read-wide c = search needs
 
-array-read-result : tie.Need-array-read-result
-array-read-result c = search needs
+wide-requires : tie.Need-wide-requires
+wide-requires c κs = search needs
 
 returns-3 : tie.Need-returns-3
 unfolding columns
-returns-3 c = entry (c .before .before .args .letter) (c .before .if1 .left) (c .if2 .left)
+returns-3 c = c .wide .ensures ∙ entry (c .before .before .before .args .letter) (c .before .before .if1 .left) (c .before .if2 .left)
 
 pub column-spec : {M : Type 1} → statement M
-column-spec = tie.close (tie.spec returns returns-2 cast-at mul-result array-read-result returns-3)
+column-spec = tie.close (tie.spec returns returns-2 cast-at array-read-wide wide-requires returns-3)

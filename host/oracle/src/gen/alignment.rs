@@ -51,6 +51,22 @@ fn batches() -> Vec<Rows> {
     all
 }
 
+/// A batch of any family.
+pub fn any(r: &mut Rng) -> Rows {
+    match r.below(9) {
+        0..=2 => {
+            let (files, peptides, rows) = (r.range(1, 12), r.range(1, 60), r.range(0, 200));
+            plain(r, files, peptides, rows)
+        }
+        3 => with_nasty_times(r, 6),
+        4 => with_nasty_times(r, 1),
+        5 => sparse(r),
+        6 => zeros(r),
+        7 => without_training(r),
+        _ => level(r),
+    }
+}
+
 /// A training row of a file, a peptide and a time.
 fn training(file: usize, peptide: u32, rt: f32) -> Row {
     Row { label: 1, rt, ..Row::new(file, PeptideIx(peptide)) }

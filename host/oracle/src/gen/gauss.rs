@@ -59,6 +59,32 @@ fn systems() -> Vec<System> {
     all
 }
 
+/// A system of any family, of a random order.
+pub fn any(r: &mut Rng) -> System {
+    let (n, i) = (r.range(2, 14), r.below(90));
+    match r.below(16) {
+        0 => of_order_one(r),
+        1 => one_ridge(r, i),
+        2 => dominant(r, n),
+        3 => normal_equations(r, n),
+        4 => deficient(r, n + 1),
+        5 => hilbert(r, n),
+        6 => singular(r, n),
+        7 => ties(r, n),
+        8 => negative_pivots(r, n),
+        9 => leftovers(r, n),
+        10 => row_zero(r, n + 1, i),
+        11 => unsolved_cells(r, n),
+        12 => infinite_row(r, n + 1),
+        13 => scaled(r, n),
+        14 if i == 0 => {
+            let n = r.range(60, 100);
+            normal_equations(r, n)
+        }
+        _ => nasty(r, n - 1),
+    }
+}
+
 fn repeat(all: &mut Vec<System>, n: usize, mut make: impl FnMut(usize) -> System) {
     all.extend((0..n).map(&mut make));
 }

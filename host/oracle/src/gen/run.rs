@@ -68,6 +68,26 @@ fn batches() -> Vec<Batch> {
     all
 }
 
+/// A batch of any family.
+pub fn any(r: &mut Rng) -> Batch {
+    let i = r.below(4);
+    match r.below(12) {
+        0..=2 => {
+            let (files, peptides, rows) = (r.range(1, 4), r.range(2, 40), r.range(0, 120));
+            batch(r, files, peptides, rows)
+        }
+        3 => one_training_row(r),
+        4 => without_training(r),
+        5 => nasty_outside(r),
+        6 => nasty_times(r),
+        7 => nasty_mobilities(r),
+        8 => unsolvable(r, i),
+        9 => heavy(r),
+        10 => long(r),
+        _ => odd_peptides(r),
+    }
+}
+
 /// A plain batch; the mobilities follow mass and charge.
 pub fn batch(r: &mut Rng, files: usize, peptides: usize, rows: usize) -> Batch {
     let mut rows = plain(r, files, peptides, rows).rows;

@@ -1,0 +1,45 @@
+-- `zorkamai::zorkamai_align` meets its contract: by those of the two that it calls.
+use Rattle.zorkamai.proofs.Calls.{exported}
+use Rattle.zorkamai.specs.Answers.{ofAlign}
+use borrow.Author.Needs.{needs}
+use Rattle.zorkamai.proofs.zorkamai_align.Statement.{statement}
+use Rattle.zorkamai.proofs.zorkamai_align.Tie as tie
+
+global-alignment-requires : tie.Need-global-alignment-requires
+global-alignment-requires c κs = search needs
+
+of-align-requires : tie.Need-of-align-requires
+of-align-requires c κs = search needs
+
+same-length : tie.Need-same-length
+same-length c = search needs
+
+same-length-2 : tie.Need-same-length-2
+same-length-2 c = search needs
+
+same-length-3 : tie.Need-same-length-3
+same-length-3 c = search needs
+
+same-length-4 : tie.Need-same-length-4
+same-length-4 c = search needs
+
+same-length-5 : tie.Need-same-length-5
+same-length-5 c = search needs
+
+returns : tie.Need-returns
+returns c =
+    let entry = c .before .before .before .before .before .before .before .before .before .before .before .global-alignment .ensures in
+    exported ofAlign _ (c .of-align .ensures) (entry .answer) entry
+
+pub zorkamai-align-spec : {M : Type 1} → statement M
+zorkamai-align-spec =
+    tie.close
+    (tie.spec
+    global-alignment-requires
+    of-align-requires
+    same-length
+    same-length-2
+    same-length-3
+    same-length-4
+    same-length-5
+    returns)

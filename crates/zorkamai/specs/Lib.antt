@@ -1,0 +1,2 @@
+-- What hosts see of the entry points' answers. Definitions only.
+pub mod Answers

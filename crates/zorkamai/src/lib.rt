@@ -1,0 +1,324 @@
+// The library for hosts: every entry point under a C name. A slice is passed as a pointer and a length; an answer is a status of document 01's
+// table, alone or in a struct beside what the call gives. Each function takes whatever is handed in, and does what its entry point does.
+ghost use mathlib.Core.List.{[]};
+ghost use mathlib.Core.Path.{_≡_};
+ghost use Rattle.embedding.specs.declared.Model.{Model};
+ghost use Rattle.gauss.specs.Solve.{Solves};
+ghost use Rattle.matrix.specs.Cells.{stepOf};
+ghost use Rattle.model_fit.specs.Input.{inputOf, tableOf};
+ghost use Rattle.models.specs.Call.{FitCall, PredictCall};
+ghost use Rattle.records.specs.Record.{recordOf, timeBy};
+ghost use Rattle.retention_alignment.specs.Call.{Aligned};
+ghost use Rattle.run.specs.Call.{RunCall};
+ghost use Rattle.zorkamai.specs.Answers.{ofSolve, ofAlign, ofFit, ofRun, ofFound, ofTime, ofStep, solveAnswer, alignAnswer, fitAnswer, predictAnswer, runAnswer, Exported};
+
+mod answers;
+
+use models::mobility_model;
+use models::retention_model;
+use records::Alignment;
+
+// The answer of the solver or of a fit: its status and, if that is 0, the ridge, the fit's r2 and the number of training rows. What a call
+// does not give is 0.
+#[repr(C)]
+pub struct Answer {
+    pub status: u8,
+    pub ridge: f64,
+    pub r2: f64,
+    pub n: u32,
+}
+
+// The answer of a run: its status, and the answer of each model's fit.
+#[repr(C)]
+pub struct RunReport {
+    pub status: u8,
+    pub retention: Answer,
+    pub mobility: Answer,
+}
+
+// The answer of a lookup: its status and, if that is 0, the record.
+#[repr(C)]
+pub struct RecordAnswer {
+    pub status: u8,
+    pub max_rt: f32,
+    pub slope: f32,
+    pub intercept: f32,
+}
+
+// A row's aligned time, if the status is 0.
+#[repr(C)]
+pub struct TimeAnswer {
+    pub status: u8,
+    pub aligned: f32,
+}
+
+// A cell of a column, where there is one, and the row below it.
+#[repr(C)]
+pub struct CellAnswer {
+    pub found: bool,
+    pub value: f64,
+    pub row: u32,
+}
+
+// Solves left · x = right, left n rows of n cells and right n rows of c (`gauss::solve`).
+#[no_mangle]
+pub extern "C" fn zorkamai_solve(
+    left: &[f64],
+    right: &[f64],
+    n: usize,
+    c: usize,
+    workspace: &mut [f64],
+    solution: &mut [f64],
+) -> Answer
+    ensures { λ r. ⌜ Exported ofSolve (solveAnswer (now (left .entry)) (now (right .entry)) n c (now (workspace .entry)) (now (solution .entry))) (λ a. Solves (now (left .entry)) (now (right .entry)) n c (now (workspace .entry)) (now (solution .entry)) a (now (workspace .exit)) (now (solution .exit))) r ⌝ }
+{
+    answers::of_solve(gauss::solve(left, right, n, c, workspace, solution))
+}
+
+// Aligns the rows' times (`retention_alignment::global_alignment`).
+#[no_mangle]
+pub extern "C" fn zorkamai_align(
+    file: &[u32],
+    peptide: &[u32],
+    label: &[i32],
+    q: &[f32],
+    rt: &[f32],
+    files: usize,
+    peptides: usize,
+    workspace: &mut [f64],
+    max_rt: &mut [f32],
+    slope: &mut [f32],
+    intercept: &mut [f32],
+    aligned: &mut [f32],
+) -> u8
+    ensures { λ r. ⌜ Exported ofAlign (alignAnswer (record { file = now (file .entry); peptide = now (peptide .entry); label = now (label .entry); q = now (q .entry); rt = now (rt .entry); files = files; peptides = peptides }) (record { workspace = now (workspace .entry); maxRt = now («max_rt» .entry); slope = now (slope .entry); intercept = now (intercept .entry); aligned = now (aligned .entry) })) (Aligned (record { file = now (file .entry); peptide = now (peptide .entry); label = now (label .entry); q = now (q .entry); rt = now (rt .entry); files = files; peptides = peptides }) (record { workspace = now (workspace .entry); maxRt = now («max_rt» .entry); slope = now (slope .entry); intercept = now (intercept .entry); aligned = now (aligned .entry) }) (record { workspace = now (workspace .exit); maxRt = now («max_rt» .exit); slope = now (slope .exit); intercept = now (intercept .exit); aligned = now (aligned .exit) })) r ⌝ }
+{
+    answers::of_align(retention_alignment::global_alignment(
+        file,
+        peptide,
+        label,
+        q,
+        rt,
+        files,
+        peptides,
+        workspace,
+        max_rt,
+        slope,
+        intercept,
+        aligned,
+    ))
+}
+
+// Fits the aligned times of the training rows (`models::retention_model::fit`).
+#[no_mangle]
+pub extern "C" fn zorkamai_retention_fit(
+    peptide: &[u32],
+    label: &[i32],
+    q: &[f32],
+    aligned: &[f32],
+    letters: &[u8],
+    offsets: &[u32],
+    masses: &[f32],
+    logs: &[f64],
+    workspace: &mut [f64],
+    beta: &mut [f64],
+) -> Answer
+    ensures { λ r. ⌜ Exported ofFit (fitAnswer Model.Retention (inputOf (now (peptide .entry)) (now (label .entry)) (now (q .entry)) [] (now (aligned .entry)) (now (letters .entry)) (now (offsets .entry)) (now (masses .entry)) (now (logs .entry))) (now (workspace .entry)) (now (beta .entry))) (FitCall Model.Retention (inputOf (now (peptide .entry)) (now (label .entry)) (now (q .entry)) [] (now (aligned .entry)) (now (letters .entry)) (now (offsets .entry)) (now (masses .entry)) (now (logs .entry))) (now (workspace .entry)) (now (workspace .exit)) (now (beta .entry)) (now (beta .exit))) r ⌝ }
+{
+    answers::of_fit(retention_model::fit(
+        peptide,
+        label,
+        q,
+        aligned,
+        letters,
+        offsets,
+        masses,
+        logs,
+        workspace,
+        beta,
+    ))
+}
+
+// Fits them and predicts every row (`models::retention_model::predict`).
+#[no_mangle]
+pub extern "C" fn zorkamai_retention_predict(
+    peptide: &[u32],
+    label: &[i32],
+    q: &[f32],
+    aligned: &[f32],
+    letters: &[u8],
+    offsets: &[u32],
+    masses: &[f32],
+    logs: &[f64],
+    workspace: &mut [f64],
+    beta: &mut [f64],
+    predicted: &mut [f32],
+    error: &mut [f32],
+) -> Answer
+    ensures { λ r. ⌜ Exported ofFit (predictAnswer Model.Retention (inputOf (now (peptide .entry)) (now (label .entry)) (now (q .entry)) [] (now (aligned .entry)) (now (letters .entry)) (now (offsets .entry)) (now (masses .entry)) (now (logs .entry))) (now (workspace .entry)) (now (beta .entry)) (now (predicted .entry)) (now (error .entry))) (PredictCall Model.Retention (inputOf (now (peptide .entry)) (now (label .entry)) (now (q .entry)) [] (now (aligned .entry)) (now (letters .entry)) (now (offsets .entry)) (now (masses .entry)) (now (logs .entry))) (now (workspace .entry)) (now (workspace .exit)) (now (beta .entry)) (now (beta .exit)) (now (predicted .entry)) (now (predicted .exit)) (now (error .entry)) (now (error .exit))) r ⌝ }
+{
+    answers::of_fit(retention_model::predict(
+        peptide,
+        label,
+        q,
+        aligned,
+        letters,
+        offsets,
+        masses,
+        logs,
+        workspace,
+        beta,
+        predicted,
+        error,
+    ))
+}
+
+// Fits the mobilities of the training rows (`models::mobility_model::fit`).
+#[no_mangle]
+pub extern "C" fn zorkamai_mobility_fit(
+    peptide: &[u32],
+    label: &[i32],
+    q: &[f32],
+    charge: &[u8],
+    mobility: &[f32],
+    letters: &[u8],
+    offsets: &[u32],
+    masses: &[f32],
+    workspace: &mut [f64],
+    beta: &mut [f64],
+) -> Answer
+    ensures { λ r. ⌜ Exported ofFit (fitAnswer Model.Mobility (inputOf (now (peptide .entry)) (now (label .entry)) (now (q .entry)) (now (charge .entry)) (now (mobility .entry)) (now (letters .entry)) (now (offsets .entry)) (now (masses .entry)) []) (now (workspace .entry)) (now (beta .entry))) (FitCall Model.Mobility (inputOf (now (peptide .entry)) (now (label .entry)) (now (q .entry)) (now (charge .entry)) (now (mobility .entry)) (now (letters .entry)) (now (offsets .entry)) (now (masses .entry)) []) (now (workspace .entry)) (now (workspace .exit)) (now (beta .entry)) (now (beta .exit))) r ⌝ }
+{
+    answers::of_fit(mobility_model::fit(
+        peptide,
+        label,
+        q,
+        charge,
+        mobility,
+        letters,
+        offsets,
+        masses,
+        workspace,
+        beta,
+    ))
+}
+
+// Fits them and predicts every row (`models::mobility_model::predict`).
+#[no_mangle]
+pub extern "C" fn zorkamai_mobility_predict(
+    peptide: &[u32],
+    label: &[i32],
+    q: &[f32],
+    charge: &[u8],
+    mobility: &[f32],
+    letters: &[u8],
+    offsets: &[u32],
+    masses: &[f32],
+    workspace: &mut [f64],
+    beta: &mut [f64],
+    predicted: &mut [f32],
+    error: &mut [f32],
+) -> Answer
+    ensures { λ r. ⌜ Exported ofFit (predictAnswer Model.Mobility (inputOf (now (peptide .entry)) (now (label .entry)) (now (q .entry)) (now (charge .entry)) (now (mobility .entry)) (now (letters .entry)) (now (offsets .entry)) (now (masses .entry)) []) (now (workspace .entry)) (now (beta .entry)) (now (predicted .entry)) (now (error .entry))) (PredictCall Model.Mobility (inputOf (now (peptide .entry)) (now (label .entry)) (now (q .entry)) (now (charge .entry)) (now (mobility .entry)) (now (letters .entry)) (now (offsets .entry)) (now (masses .entry)) []) (now (workspace .entry)) (now (workspace .exit)) (now (beta .entry)) (now (beta .exit)) (now (predicted .entry)) (now (predicted .exit)) (now (error .entry)) (now (error .exit))) r ⌝ }
+{
+    answers::of_fit(mobility_model::predict(
+        peptide,
+        label,
+        q,
+        charge,
+        mobility,
+        letters,
+        offsets,
+        masses,
+        workspace,
+        beta,
+        predicted,
+        error,
+    ))
+}
+
+// The alignment, both fits on it, and the predictions and errors of each model that fits (`run::run`).
+#[no_mangle]
+pub extern "C" fn zorkamai_run(
+    file: &[u32],
+    peptide: &[u32],
+    label: &[i32],
+    q: &[f32],
+    rt: &[f32],
+    charge: &[u8],
+    mobility: &[f32],
+    files: usize,
+    letters: &[u8],
+    offsets: &[u32],
+    masses: &[f32],
+    logs: &[f64],
+    workspace: &mut [f64],
+    max_rt: &mut [f32],
+    slope: &mut [f32],
+    intercept: &mut [f32],
+    aligned: &mut [f32],
+    retention_beta: &mut [f64],
+    retention_predicted: &mut [f32],
+    retention_error: &mut [f32],
+    mobility_beta: &mut [f64],
+    mobility_predicted: &mut [f32],
+    mobility_error: &mut [f32],
+) -> RunReport
+    ensures { λ r. ⌜ Exported ofRun (runAnswer (record { file = now (file .entry); peptide = now (peptide .entry); label = now (label .entry); q = now (q .entry); rt = now (rt .entry); charge = now (charge .entry); mobility = now (mobility .entry); files = files; table = tableOf (now (letters .entry)) (now (offsets .entry)) (now (masses .entry)) (now (logs .entry)) }) (record { workspace = now (workspace .entry); maxRt = now («max_rt» .entry); slope = now (slope .entry); intercept = now (intercept .entry); aligned = now (aligned .entry); retentionBeta = now («retention_beta» .entry); retentionPredicted = now («retention_predicted» .entry); retentionError = now («retention_error» .entry); mobilityBeta = now («mobility_beta» .entry); mobilityPredicted = now («mobility_predicted» .entry); mobilityError = now («mobility_error» .entry) })) (RunCall (record { file = now (file .entry); peptide = now (peptide .entry); label = now (label .entry); q = now (q .entry); rt = now (rt .entry); charge = now (charge .entry); mobility = now (mobility .entry); files = files; table = tableOf (now (letters .entry)) (now (offsets .entry)) (now (masses .entry)) (now (logs .entry)) }) (record { workspace = now (workspace .entry); maxRt = now («max_rt» .entry); slope = now (slope .entry); intercept = now (intercept .entry); aligned = now (aligned .entry); retentionBeta = now («retention_beta» .entry); retentionPredicted = now («retention_predicted» .entry); retentionError = now («retention_error» .entry); mobilityBeta = now («mobility_beta» .entry); mobilityPredicted = now («mobility_predicted» .entry); mobilityError = now («mobility_error» .entry) }) (record { workspace = now (workspace .exit); maxRt = now («max_rt» .exit); slope = now (slope .exit); intercept = now (intercept .exit); aligned = now (aligned .exit); retentionBeta = now («retention_beta» .exit); retentionPredicted = now («retention_predicted» .exit); retentionError = now («retention_error» .exit); mobilityBeta = now («mobility_beta» .exit); mobilityPredicted = now («mobility_predicted» .exit); mobilityError = now («mobility_error» .exit) })) r ⌝ }
+{
+    answers::of_run(run::run(
+        file,
+        peptide,
+        label,
+        q,
+        rt,
+        charge,
+        mobility,
+        files,
+        letters,
+        offsets,
+        masses,
+        logs,
+        workspace,
+        max_rt,
+        slope,
+        intercept,
+        aligned,
+        retention_beta,
+        retention_predicted,
+        retention_error,
+        mobility_beta,
+        mobility_predicted,
+        mobility_error,
+    ))
+}
+
+// The cell in a row of a column of a matrix of rows × cols cells (`column::step_at`).
+#[no_mangle]
+pub extern "C" fn zorkamai_column_step(
+    cells: &[f64],
+    rows: u32,
+    cols: u32,
+    row: u32,
+    col: u32,
+) -> CellAnswer
+    ensures { λ r. ⌜ r ≡ ofStep (stepOf rows cols (record { row = row; col = col }) (now (cells .entry))) ⌝ }
+{
+    answers::of_step(column::step_at(cells, rows, cols, row, col))
+}
+
+// The record of a file in a list of records (`records::record_of`).
+#[no_mangle]
+pub extern "C" fn zorkamai_record_of(records: &[Alignment], file: u32) -> RecordAnswer
+    ensures { λ r. ⌜ r ≡ ofFound (recordOf (now (records .entry)) file) ⌝ }
+{
+    answers::of_found(records::record_of(records, file))
+}
+
+// The aligned time of a row with this file and this time, by a list of records (`records::aligned`).
+#[no_mangle]
+pub extern "C" fn zorkamai_aligned_time(records: &[Alignment], file: u32, rt: f32) -> TimeAnswer
+    ensures { λ r. ⌜ r ≡ ofTime (timeBy (recordOf (now (records .entry)) file) rt) ⌝ }
+{
+    answers::of_time(records::aligned(records, file, rt))
+}

@@ -1,0 +1,105 @@
+//! Sage's Rust, read sequentially as in the oracle, against the library: one driver, the same inputs, both built
+//! for release. Each time is the best of several runs, the two sides in turn, in the processor's time of this thread.
+//!
+//!     cargo run --release --offline             all batches; the table that docs/BENCHMARKS.md holds
+//!     cargo run --release --offline -- small    without the batches of a million rows
+
+mod clock;
+mod input;
+
+use input::{System, Work};
+use std::hint::black_box;
+
+/// A phase, and the call of each side.
+type Phase = (&'static str, fn(&mut Work), fn(&mut Work));
+
+/// A phase on one input: the best seconds of the Rust and of the library.
+struct Line {
+    phase: &'static str,
+    size: usize,
+    rust: f64,
+    library: f64,
+}
+
+fn main() {
+    let small = std::env::args().nth(1).as_deref() == Some("small");
+    let mut lines: Vec<Line> = vec![];
+    for order in [69, 100] {
+        lines.push(solve(order));
+    }
+    let sizes: &[usize] = if small { &[10_000, 100_000] } else { &[10_000, 100_000, 1_000_000] };
+    for &rows in sizes {
+        eprintln!("{rows} rows");
+        lines.extend(batch(rows));
+    }
+    print_table(&lines);
+}
+
+/// The best times of `n` runs of each of two sides in turn, in seconds.
+fn best<W>(n: usize, work: &mut W, rust: impl Fn(&mut W), library: impl Fn(&mut W)) -> (f64, f64) {
+    let mut least = (f64::INFINITY, f64::INFINITY);
+    for _ in 0..n {
+        least.0 = least.0.min(clock::seconds_of(|| rust(work)));
+        least.1 = least.1.min(clock::seconds_of(|| library(work)));
+    }
+    least
+}
+
+fn solve(order: usize) -> Line {
+    let rust = |s: &mut System| _ = black_box(s.rust());
+    let library = |s: &mut System| _ = black_box(s.library());
+    let (rust, library) = best(300, &mut System::new(order), rust, library);
+    Line { phase: "solve, order", size: order, rust, library }
+}
+
+fn batch(rows: usize) -> Vec<Line> {
+    let mut work = Work::new(rows);
+    let runs = match rows {
+        0..=10_000 => 41,
+        10_001..=100_000 => 21,
+        _ => 5,
+    };
+    let phases: [Phase; 5] = [
+        ("align", Work::rust_align, Work::align),
+        ("retention fit", Work::rust_retention_fit, Work::retention_fit),
+        ("retention predict", Work::rust_retention_predict, Work::retention_predict),
+        ("mobility fit", Work::rust_mobility_fit, Work::mobility_fit),
+        ("mobility predict", Work::rust_mobility_predict, Work::mobility_predict),
+    ];
+    let line = |(phase, rust, library)| {
+        let (rust, library) = best(runs, &mut work, rust, library);
+        Line { phase, size: rows, rust, library }
+    };
+    phases.into_iter().map(line).collect()
+}
+
+fn print_table(lines: &[Line]) {
+    let cores = std::thread::available_parallelism().map_or(0, |n| n.get());
+    println!("{}, {cores} cores, one used.\n", processor());
+    println!("| Phase | Rows or order | Rust, ms | Library, ms | Ratio | Library, µs a row |");
+    println!("|---|---:|---:|---:|---:|---:|");
+    let mut by_phase: Vec<&Line> = lines.iter().collect();
+    let first = |phase: &str| lines.iter().position(|l| l.phase == phase);
+    by_phase.sort_by_key(|l| (first(l.phase), l.size));
+    for l in by_phase {
+        let per_row = match l.phase.starts_with("solve") {
+            true => String::new(),
+            false => format!("{:.3}", l.library / l.size as f64 * 1E6),
+        };
+        println!(
+            "| {} | {} | {:.3} | {:.3} | {:.2} | {per_row} |",
+            l.phase,
+            l.size,
+            l.rust * 1E3,
+            l.library * 1E3,
+            l.library / l.rust
+        );
+    }
+}
+
+/// The processor's name, as Linux tells it.
+fn processor() -> String {
+    let info = std::fs::read_to_string("/proc/cpuinfo").unwrap_or_default();
+    let name = info.lines().find_map(|l| l.strip_prefix("model name")?.split_once(':'));
+    name.map_or("unknown processor".to_string(), |(_, name)| name.trim().to_string())
+}

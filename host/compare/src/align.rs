@@ -1,0 +1,163 @@
+//! Batches through the alignment, and damaged calls of it.
+
+use crate::cells::{same, Output};
+use oracle::alignment::{align, Row};
+use oracle::gen::alignment::Rows;
+use oracle::rng::Rng;
+use zorkamai::raw;
+
+/// A batch of any family, aligned, and each way to damage the call.
+pub fn case(r: &mut Rng) -> Result<usize, String> {
+    let batch = oracle::gen::alignment::any(r);
+    let mut out = Outputs::new(r, &batch);
+    let columns = columns(&batch.rows);
+    accepted(&batch, &columns, &mut out)?;
+    Ok(1 + damaged(r, &batch, &columns, &mut out)?)
+}
+
+/// The rows' columns, as the library takes them.
+pub fn columns(rows: &[Row]) -> zorkamai::Rows {
+    let row = |row: &Row| zorkamai::Row {
+        file: row.file as u32,
+        peptide: row.peptide.0,
+        label: row.label,
+        q: row.q,
+        rt: row.rt,
+        charge: row.charge,
+        mobility: row.ims,
+    };
+    rows.iter().map(row).collect()
+}
+
+pub struct Outputs {
+    pub workspace: Output<f64>,
+    /// The longest times, slopes, intercepts and aligned times.
+    pub floats: [Output<f32>; 4],
+}
+
+impl Outputs {
+    pub fn new(r: &mut Rng, batch: &Rows) -> Outputs {
+        Outputs {
+            workspace: Output::new(r, "workspace", batch.peptides * batch.files),
+            floats: [
+                Output::new(r, "max_rt", batch.files),
+                Output::new(r, "slope", batch.files),
+                Output::new(r, "intercept", batch.files),
+                Output::new(r, "aligned", batch.rows.len()),
+            ],
+        }
+    }
+
+    pub fn call(&mut self, rows: &zorkamai::Rows, files: usize, peptides: usize) -> u8 {
+        let [max_rt, slope, intercept, aligned] = &mut self.floats;
+        raw::align(
+            &rows.file,
+            &rows.peptide,
+            &rows.label,
+            &rows.q,
+            &rows.rt,
+            files,
+            peptides,
+            &mut self.workspace.now,
+            &mut max_rt.now,
+            &mut slope.now,
+            &mut intercept.now,
+            &mut aligned.now,
+        )
+    }
+
+    fn unchanged(&self) -> Result<(), String> {
+        self.workspace.unchanged()?;
+        self.floats.iter().try_for_each(Output::unchanged)
+    }
+}
+
+/// The call is accepted and gives what the Rust gives.
+pub fn accepted(batch: &Rows, rows: &zorkamai::Rows, out: &mut Outputs) -> Result<(), String> {
+    same("status", out.call(rows, batch.files, batch.peptides), 0)?;
+    let want = align(batch.files, &batch.rows);
+    let [max_rt, slope, intercept, aligned] = &out.floats;
+    let of = |cell: fn(&sage::ml::retention_alignment::Alignment) -> f32| {
+        want.records.iter().map(cell).collect::<Vec<f32>>()
+    };
+    max_rt.holds(&of(|a| a.max_rt))?;
+    slope.holds(&of(|a| a.slope))?;
+    intercept.holds(&of(|a| a.intercept))?;
+    aligned.holds(&want.features.iter().map(|f| f.aligned_rt).collect::<Vec<f32>>())?;
+    out.workspace.zeroed()
+}
+
+/// Refused with this status, and nothing changed.
+fn refused(
+    out: &mut Outputs,
+    rows: &zorkamai::Rows,
+    files: usize,
+    peptides: usize,
+    status: u8,
+) -> Result<(), String> {
+    same("status", out.call(rows, files, peptides), status)?;
+    out.unchanged()
+}
+
+fn damaged(
+    r: &mut Rng,
+    batch: &Rows,
+    rows: &zorkamai::Rows,
+    out: &mut Outputs,
+) -> Result<usize, String> {
+    out.workspace.reset();
+    out.floats.iter_mut().for_each(Output::reset);
+    let (files, peptides, n) = (batch.files, batch.peptides, rows.len());
+    let mut calls = 0;
+    let mut refuse = |out: &mut Outputs, rows: &zorkamai::Rows, files, peptides, status| {
+        calls += 1;
+        refused(out, rows, files, peptides, status)
+    };
+    // Each column one short.
+    for column in 0..5 {
+        let mut damaged = rows.clone();
+        let cut = match column {
+            0 => damaged.file.pop().is_some(),
+            1 => damaged.peptide.pop().is_some(),
+            2 => damaged.label.pop().is_some(),
+            3 => damaged.q.pop().is_some(),
+            _ => damaged.rt.pop().is_some(),
+        };
+        if cut {
+            refuse(out, &damaged, files, peptides, 1)?;
+        }
+    }
+    // Past the limits.
+    let many = r.pick(&[1_025, 1 << 20, usize::MAX, 1 << 32]);
+    refuse(out, rows, 0, peptides, 2)?;
+    refuse(out, rows, many, peptides, 2)?;
+    let many = r.pick(&[1_048_577, 1 << 32, usize::MAX]);
+    refuse(out, rows, files, many, 2)?;
+    refuse(out, rows, 1_024, 16_385, 2)?;
+    // A slice one short.
+    if out.workspace.needed() > 0 {
+        let mut short = out.workspace.short();
+        std::mem::swap(&mut short, &mut out.workspace);
+        refuse(out, rows, files, peptides, 3)?;
+        std::mem::swap(&mut short, &mut out.workspace);
+    }
+    for i in 0..4 {
+        if out.floats[i].needed() > 0 {
+            let mut short = out.floats[i].short();
+            std::mem::swap(&mut short, &mut out.floats[i]);
+            refuse(out, rows, files, peptides, 3)?;
+            std::mem::swap(&mut short, &mut out.floats[i]);
+        }
+    }
+    // A number out of range; a file's before a peptide's.
+    if n > 0 {
+        let at = r.below(n);
+        let past = r.pick(&[0, 1, 1 << 20, u32::MAX - 2_000]);
+        let mut damaged = rows.clone();
+        damaged.peptide[at] = peptides as u32 + past;
+        refuse(out, &damaged, files, peptides, 5)?;
+        damaged.file[r.below(n)] = files as u32 + past;
+        refuse(out, &damaged, files, peptides, 4)?;
+    }
+    Ok(calls)
+}

@@ -1,0 +1,182 @@
+//! Whole runs, and damaged calls of them.
+
+use crate::cells::{same, Output};
+use crate::models::{holds_beta, is_fit, Input};
+use oracle::rng::Rng;
+use oracle::run::{run, Batch, Fit, Run};
+use sage::scoring::Feature;
+use zorkamai::{mobility, raw, retention};
+
+/// A batch of any family, run, and each way to damage the call.
+pub fn case(r: &mut Rng) -> Result<usize, String> {
+    let batch = oracle::gen::run::any(r);
+    let want = run(&batch);
+    let input = Input::new(&batch, &want);
+    let mut out = Outputs::new(r, &batch);
+    accepted(&batch, &input, &want, &mut out)?;
+    Ok(1 + damaged(r, &batch, &input, &mut out)?)
+}
+
+/// The slices that a run writes: the work room and both models' coefficients; the records, the aligned times and
+/// both models' predictions and errors.
+pub struct Outputs {
+    doubles: [Output<f64>; 3],
+    floats: [Output<f32>; 8],
+}
+
+impl Outputs {
+    pub fn new(r: &mut Rng, batch: &Batch) -> Outputs {
+        let (files, rows) = (batch.files, batch.rows.len());
+        let cells = (batch.peptides.len() * files).max(mobility::WORKSPACE);
+        let mut float = |name, n| Output::new(r, name, n);
+        let floats = [
+            float("max_rt", files),
+            float("slope", files),
+            float("intercept", files),
+            float("aligned", rows),
+            float("retention_predicted", rows),
+            float("retention_error", rows),
+            float("mobility_predicted", rows),
+            float("mobility_error", rows),
+        ];
+        let doubles = [
+            Output::new(r, "workspace", cells),
+            Output::new(r, "retention_beta", retention::COLUMNS),
+            Output::new(r, "mobility_beta", mobility::COLUMNS),
+        ];
+        Outputs { doubles, floats }
+    }
+
+    fn call(&mut self, i: &Input, files: usize) -> raw::RunReport {
+        let [work, beta, beta2] = &mut self.doubles;
+        let [max_rt, slope, intercept, aligned, x, e, x2, e2] = &mut self.floats;
+        raw::run(
+            &i.rows.file,
+            &i.rows.peptide,
+            &i.rows.label,
+            &i.rows.q,
+            &i.rows.rt,
+            &i.rows.charge,
+            &i.rows.mobility,
+            files,
+            &i.table.letters,
+            &i.table.offsets,
+            &i.table.masses,
+            &i.table.logs,
+            &mut work.now,
+            &mut max_rt.now,
+            &mut slope.now,
+            &mut intercept.now,
+            &mut aligned.now,
+            &mut beta.now,
+            &mut x.now,
+            &mut e.now,
+            &mut beta2.now,
+            &mut x2.now,
+            &mut e2.now,
+        )
+    }
+
+    fn unchanged(&self) -> Result<(), String> {
+        self.doubles.iter().try_for_each(Output::unchanged)?;
+        self.floats.iter().try_for_each(Output::unchanged)
+    }
+}
+
+/// The run is accepted and gives what the Rust gives.
+pub fn accepted(batch: &Batch, input: &Input, want: &Run, out: &mut Outputs) -> Result<(), String> {
+    let report = out.call(input, batch.files);
+    same("status", report.status, 0)?;
+    is_fit("retention", report.retention, &want.retention)?;
+    is_fit("mobility", report.mobility, &want.mobility)?;
+    out.doubles[0].zeroed()?;
+    let features = &want.aligned.features;
+    let records = &want.aligned.records;
+    out.floats[0].holds(&records.iter().map(|a| a.max_rt).collect::<Vec<_>>())?;
+    out.floats[1].holds(&records.iter().map(|a| a.slope).collect::<Vec<_>>())?;
+    out.floats[2].holds(&records.iter().map(|a| a.intercept).collect::<Vec<_>>())?;
+    out.floats[3].holds(&features.iter().map(|f| f.aligned_rt).collect::<Vec<_>>())?;
+    holds_column(&out.floats[4], &want.retention, features, |f| f.predicted_rt)?;
+    holds_column(&out.floats[5], &want.retention, features, |f| f.delta_rt_model)?;
+    holds_column(&out.floats[6], &want.mobility, features, |f| f.predicted_ims)?;
+    holds_column(&out.floats[7], &want.mobility, features, |f| f.delta_ims_model)?;
+    holds_beta(&out.doubles[1], &want.retention)?;
+    holds_beta(&out.doubles[2], &want.mobility)
+}
+
+/// The column is what the Rust wrote, or what it was where the model does not fit.
+fn holds_column(
+    column: &Output<f32>,
+    fit: &Fit,
+    features: &[Feature],
+    cell: fn(&Feature) -> f32,
+) -> Result<(), String> {
+    match fit {
+        Fit::Solved { .. } => column.holds(&features.iter().map(cell).collect::<Vec<_>>()),
+        _ => column.unchanged(),
+    }
+}
+
+/// Each column one short, each slice one short, limits passed, broken tables and numbers out of range: refused, and
+/// nothing changed.
+fn damaged(r: &mut Rng, batch: &Batch, input: &Input, out: &mut Outputs) -> Result<usize, String> {
+    out.doubles.iter_mut().for_each(Output::reset);
+    out.floats.iter_mut().for_each(Output::reset);
+    let mut calls = 0;
+    let mut refuse = |out: &mut Outputs, input: &Input, files: usize, status: u8| {
+        calls += 1;
+        let report = out.call(input, files);
+        let got = [report.status, report.retention.status, report.mobility.status];
+        same("refusal", got, [status; 3])?;
+        out.unchanged()
+    };
+    let files = batch.files;
+    for damaged in shorter(input) {
+        refuse(out, &damaged, files, 1)?;
+    }
+    for many in [0, 1_025, usize::MAX] {
+        refuse(out, input, many, 2)?;
+    }
+    for i in 0..out.doubles.len() {
+        let mut short = out.doubles[i].short();
+        std::mem::swap(&mut short, &mut out.doubles[i]);
+        refuse(out, input, files, 3)?;
+        std::mem::swap(&mut short, &mut out.doubles[i]);
+    }
+    for i in 0..out.floats.len() {
+        if out.floats[i].needed() > 0 {
+            let mut short = out.floats[i].short();
+            std::mem::swap(&mut short, &mut out.floats[i]);
+            refuse(out, input, files, 3)?;
+            std::mem::swap(&mut short, &mut out.floats[i]);
+        }
+    }
+    for (damaged, status) in crate::models::broken(r, input) {
+        refuse(out, &damaged, files, status)?;
+    }
+    if !input.rows.is_empty() {
+        let mut damaged = input.clone();
+        damaged.rows.file[r.below(input.rows.len())] = files as u32 + r.below(3) as u32;
+        refuse(out, &damaged, files, 4)?;
+    }
+    Ok(calls)
+}
+
+/// The input with each of its columns one short.
+fn shorter(input: &Input) -> Vec<Input> {
+    let cuts: [fn(&mut Input) -> bool; 8] = [
+        |i| i.rows.file.pop().is_some(),
+        |i| i.rows.peptide.pop().is_some(),
+        |i| i.rows.label.pop().is_some(),
+        |i| i.rows.q.pop().is_some(),
+        |i| i.rows.rt.pop().is_some(),
+        |i| i.rows.charge.pop().is_some(),
+        |i| i.rows.mobility.pop().is_some(),
+        |i| i.table.logs.pop().is_some(),
+    ];
+    let cut = |change: fn(&mut Input) -> bool| {
+        let mut damaged = input.clone();
+        change(&mut damaged).then_some(damaged)
+    };
+    cuts.into_iter().filter_map(cut).collect()
+}

@@ -1,0 +1,109 @@
+//! The alignment of retention times.
+
+use crate::error::Call;
+use crate::limits::{CELLS, FILES, PEPTIDES, ROWS};
+use crate::{raw, Alignment, Error, Rows};
+
+/// What an alignment gives.
+#[derive(Clone, Debug, PartialEq)]
+pub struct Aligned {
+    /// A record for each file.
+    pub records: Vec<Alignment>,
+    /// A row's aligned time, for each row.
+    pub aligned: Vec<f32>,
+}
+
+/// Aligns the rows' times over the files: a line for each file that takes its times, as shares of the file's
+/// longest time, to the mean shares of the peptides that training rows name.
+///
+/// ```
+/// use zorkamai::{align, Row, Rows};
+/// let row = Row { label: 1, rt: 10.0, ..Default::default() };
+/// let one = align(&Rows::from_iter([row]), 1, 1)?;
+/// assert_eq!((one.records[0].slope, one.records[0].intercept), (0.0, 1.0));
+/// assert_eq!(one.aligned, [1.0]);
+/// # Ok::<(), zorkamai::Error>(())
+/// ```
+pub fn align(rows: &Rows, files: usize, peptides: usize) -> Result<Aligned, Error> {
+    let cells = peptides.saturating_mul(files);
+    // Past the limits the call is refused, whatever room it has.
+    let room = if cells <= CELLS && files <= FILES { (cells, files) } else { (0, 0) };
+    let mut workspace = vec![0.0; room.0];
+    let (mut max_rt, mut slope, mut intercept) =
+        (vec![0.0; room.1], vec![0.0; room.1], vec![0.0; room.1]);
+    let mut aligned = vec![0.0; rows.len()];
+    let number = raw::align(
+        &rows.file,
+        &rows.peptide,
+        &rows.label,
+        &rows.q,
+        &rows.rt,
+        files,
+        peptides,
+        &mut workspace,
+        &mut max_rt,
+        &mut slope,
+        &mut intercept,
+        &mut aligned,
+    );
+    if number != 0 {
+        return Err(refused(rows, files, peptides).error(number));
+    }
+    let record =
+        |i: usize| Alignment { max_rt: max_rt[i], slope: slope[i], intercept: intercept[i] };
+    Ok(Aligned { records: (0..files).map(record).collect(), aligned })
+}
+
+fn refused(rows: &Rows, files: usize, peptides: usize) -> Call<'_> {
+    let columns = vec![
+        ("file", rows.file.len()),
+        ("peptide", rows.peptide.len()),
+        ("label", rows.label.len()),
+        ("q", rows.q.len()),
+        ("rt", rows.rt.len()),
+    ];
+    let limits = vec![
+        ("files", files, 1, FILES),
+        ("rows", rows.len(), 0, ROWS),
+        ("peptides", peptides, 0, PEPTIDES),
+        ("peptides × files", peptides.saturating_mul(files), 0, CELLS),
+    ];
+    Call { columns, limits, file: &rows.file, files, peptide: &rows.peptide, peptides, table: None }
+}
+
+/// A file's record in a list of records.
+///
+/// ```
+/// use zorkamai::{record_of, Alignment};
+/// let records = [Alignment { max_rt: 10.0, slope: 1.0, intercept: 0.0 }];
+/// assert_eq!(record_of(&records, 0)?.max_rt, 10.0);
+/// assert_eq!(record_of(&records, 1).unwrap_err().number(), 4);
+/// # Ok::<(), zorkamai::Error>(())
+/// ```
+pub fn record_of(records: &[Alignment], file: u32) -> Result<Alignment, Error> {
+    let found = raw::record_of(records, file);
+    match found.status {
+        0 => Ok(Alignment { max_rt: found.max_rt, slope: found.slope, intercept: found.intercept }),
+        _ => Err(no_record(records, file)),
+    }
+}
+
+/// The aligned time of a row with this file and this time, by a list of records.
+///
+/// ```
+/// use zorkamai::{aligned_time, Alignment};
+/// let records = [Alignment { max_rt: 10.0, slope: 0.5, intercept: 0.25 }];
+/// assert_eq!(aligned_time(&records, 0, 5.0)?, 0.5);
+/// # Ok::<(), zorkamai::Error>(())
+/// ```
+pub fn aligned_time(records: &[Alignment], file: u32, rt: f32) -> Result<f32, Error> {
+    let found = raw::aligned_time(records, file, rt);
+    match found.status {
+        0 => Ok(found.aligned),
+        _ => Err(no_record(records, file)),
+    }
+}
+
+fn no_record(records: &[Alignment], file: u32) -> Error {
+    Error::File { row: None, file: file as usize, files: records.len() }
+}
