@@ -16,10 +16,11 @@ use Rattle.feature.specs.Checks.{every, allBelow, lengthsAgree}
 use Rattle.feature.specs.Status.{badFile, badPeptide}
 use Rattle.rt_matrix.specs.Line.{lines}
 use Rattle.rt_matrix.specs.declared.Alignment.{Alignment}
-use Rattle.rt_matrix.proofs.Lists.{length-tabulate}
+use Rattle.matrix.proofs.Lists.{length-tabulate}
 use Rattle.retention_alignment.specs.Observation.{maxRts}
 use Rattle.retention_alignment.specs.Alignments.{alignments, aligned}
-use Rattle.retention_alignment.specs.Call.{Input, Slices, longEnough, firstFailed, statusOf, status, answerOf, rows, recordsFor, over, filled, slicesAfter, Aligned}
+use Rattle.matrix.specs.Lists.{overwritten}
+use Rattle.retention_alignment.specs.Call.{Input, Slices, longEnough, firstFailed, statusOf, status, answerOf, rows, recordsFor, filled, slicesAfter, Aligned}
 use Rattle.retention_alignment.specs.declared.AlignAnswer.{AlignAnswer}
 use Rattle.retention_alignment.specs.declared.AlignAnswer.the-variants.{Accepted, Refused}
 use Rattle.retention_alignment.proofs.Rows.{length-rows}
@@ -118,7 +119,7 @@ module _ (i : Input) (out : List ℕ) (d : Ready i out) where
       unfolding slicesAfter
       filled-is = ap (λ (b : Bool). cond b (filled i s) s) (ap (λ (n : ℕ). eqb n 0) (status-is s room) ∙ both .1)
 
-      field : (f : Alignment → Float) (old : List Float) → take (i .files) (over (map f (recordsFor i)) old) ≡ map f (recordsFor i)
+      field : (f : Alignment → Float) (old : List Float) → take (i .files) (overwritten (map f (recordsFor i)) old) ≡ map f (recordsFor i)
       field f old = take-at (map f (recordsFor i)) _ (i .files) (length-map (recordsFor i) f ∙ records-long i)
 
       times-long : length (map (aligned (recordsFor i)) (rows i)) ≡ length (i .file)

@@ -7,6 +7,7 @@ use native.Mathlib.Omega.{arith}
 use lib.ListN.{length, drop}
 use lib.Seq.{sets, sets-eq}
 use borrow.Author.Tests.{le-leb, lt-leb, leb-true}
+use Rattle.matrix.specs.Lists.{overwritten}
 use Rattle.feature.specs.Status.{accepted, tooShort}
 use Rattle.align_text.specs.declared.TextAnswer.{TextAnswer}
 use Rattle.align_text.specs.declared.TextAnswer.the-variants.{Written, Refused}
@@ -20,7 +21,7 @@ module _ (t before : List ℕ) (n : ℕ) (e : n ≡ 0 + length (alignText t)) wh
       record {
         answer = sym (ap (λ (b : Bool). cond b (Written (length (alignText t))) (Refused tooShort)) f);
         number = sym (ap (λ (b : Bool). cond b accepted tooShort) f);
-        output = sym (ap (λ (b : Bool). cond b (alignText t ++ drop (length (alignText t)) before) before) f);
+        output = sym (ap (λ (b : Bool). cond b (overwritten (alignText t) before) before) f);
       }
 
   pub written : n ≤ length before → (after : List ℕ) → after ≡ sets before 0 (alignText t) → Answered t before (Written n) after
@@ -34,7 +35,7 @@ module _ (t before : List ℕ) (n : ℕ) (e : n ≡ 0 + length (alignText t)) wh
         output = w
             ∙ sets-eq (alignText t) before 0 (omega arith)
             ∙ ap (λ (k : ℕ). alignText t ++ drop k before) z
-            ∙ sym (ap (λ (b : Bool). cond b (alignText t ++ drop (length (alignText t)) before) before) f);
+            ∙ sym (ap (λ (b : Bool). cond b (overwritten (alignText t) before) before) f);
       }
 
 -- what is said to be written fits

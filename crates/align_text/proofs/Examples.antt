@@ -13,7 +13,8 @@ use Rattle.text.specs.Line.{lineOf, startsWith, keyed, firstLine, readHexDigits
 use Rattle.feature.specs.Checks.{every}
 use Rattle.feature.specs.Feature.{trains, mask, kept}
 use Rattle.rt_matrix.specs.Line as RL
-use Rattle.rt_matrix.specs.Line.{tabulate, share, present, mean, keptRows, pointOf, points, finiteOr, line, lines}
+use Rattle.matrix.specs.Lists.{tabulate}
+use Rattle.rt_matrix.specs.Line.{share, present, mean, keptRows, pointOf, points, finiteOr, line, lines}
 use Rattle.retention_alignment.specs.Observation.{observations, maxRt, maxRts, times, smaller, minRt, minRts}
 use Rattle.retention_alignment.specs.Alignments.{alignments, alignedBy, aligned}
 use Rattle.align_input.specs.Parse.{rowRead, rowsFrom, rowsOf, headRead, parse}

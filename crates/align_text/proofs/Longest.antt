@@ -1,12 +1,13 @@
 -- No answer is longer than 4,882 bytes: the status, eight files and 256 rows. Assumes nothing.
 use mathlib.Core.Path.{_≡_, refl, sym, ap, _∙_}
 use mathlib.Core.Bool.{Bool, true, false, cond}
-use mathlib.Core.List.{List, _++_, map}
+use mathlib.Core.List.{List, map}
 use mathlib.Core.Option.{Option, none, some}
 use Prim.Native.Nat.{ℕ, _≤_}
 use native.Mathlib.Omega.{arith}
-use lib.ListN.{length, drop, length-map}
+use lib.ListN.{length, length-map}
 use borrow.Author.Tests.{le-leb}
+use Rattle.matrix.specs.Lists.{overwritten}
 use Rattle.feature.specs.Checks.{allBelow}
 use Rattle.feature.specs.Status.{tooShort, badFile, badPeptide}
 use Rattle.rt_matrix.specs.declared.Alignment.{Alignment}
@@ -80,9 +81,9 @@ text-short t = answer-short (parse t)
 
 -- an output of that length takes every answer
 pub always-written : (t before : List ℕ) (r : TextAnswer) (after : List ℕ) → Answered t before r after → longest ≤ length before
-    → (r ≡ Written (length (alignText t))) × (after ≡ alignText t ++ drop (length (alignText t)) before)
+    → (r ≡ Written (length (alignText t))) × (after ≡ overwritten (alignText t) before)
 always-written t before r after w h =
     let f : fits (alignText t) before ≡ true = le-leb (length (alignText t)) (length before) (omega (arith, text-short t)) in (
       w .answer ∙ ap (λ (b : Bool). cond b (Written (length (alignText t))) (Refused tooShort)) f,
-      w .output ∙ ap (λ (b : Bool). cond b (alignText t ++ drop (length (alignText t)) before) before) f,
+      w .output ∙ ap (λ (b : Bool). cond b (overwritten (alignText t) before) before) f,
     )

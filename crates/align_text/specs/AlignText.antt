@@ -2,10 +2,11 @@
 use Prim.Native.Nat.{ℕ}
 use mathlib.Core.Path.{_≡_}
 use mathlib.Core.Bool.{Bool, _&&_, cond}
-use mathlib.Core.List.{List, _++_, map}
+use mathlib.Core.List.{List, map}
 use mathlib.Core.Option.{Option, none, some}
 use lib.Dec.{leb}
-use lib.ListN.{length, drop}
+use lib.ListN.{length}
+use Rattle.matrix.specs.Lists.{overwritten}
 use Rattle.feature.specs.Checks.{allBelow}
 use Rattle.feature.specs.Status.{accepted, malformed, pastLimit, tooShort, badFile, badPeptide}
 use Rattle.rt_matrix.specs.declared.Alignment.{Alignment}
@@ -91,4 +92,4 @@ numberOf (Refused n) = n
 pub record Answered (input before : List ℕ) (r : TextAnswer) (after : List ℕ) : Type 0 where
   pub answer : r ≡ cond (fits (alignText input) before) (Written (length (alignText input))) (Refused tooShort)
   pub number : numberOf r ≡ cond (fits (alignText input) before) accepted tooShort
-  pub output : after ≡ cond (fits (alignText input) before) (alignText input ++ drop (length (alignText input)) before) before
+  pub output : after ≡ cond (fits (alignText input) before) (overwritten (alignText input) before) before

@@ -9,7 +9,7 @@ use lib.Seq.{drop-cons}
 use lib.Dec.{eqb}
 use borrow.Author.Tests.{not-true, not-false}
 use lib.Ieee.{Float, nan, eq, le}
-use Rattle.matrix.specs.Cells.{zero64}
+use Rattle.float.specs.Number.{zero64}
 use Rattle.elimination.specs.Rows.{rowOf}
 use Rattle.elimination.specs.Elimination.{cell, lowest64, zeros, largest, pivotRow, eliminated, echelonFrom, cellSolved, rowSolved, solvedFrom}
 

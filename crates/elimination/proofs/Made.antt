@@ -6,7 +6,8 @@ use Prim.Native.Nat.{ℕ, zero, suc, _≤_, _<_}
 use native.Mathlib.Nat.{le-of-suc-le-suc, not-suc-le-zero, le-of-eq}
 use native.Mathlib.Omega.{arith}
 use lib.ListN.{length, getD, set, replicate}
-use Rattle.elimination.specs.Rows.{indexed, zipped}
+use Rattle.matrix.specs.Lists.{zipped}
+use Rattle.elimination.specs.Rows.{indexed}
 
 module _ {A : Type 0} where
   -- the first j elements made anew, the others as they were

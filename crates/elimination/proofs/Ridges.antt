@@ -7,7 +7,8 @@ use native.Mathlib.Nat.{not-suc-le-zero, le-of-suc-le-suc, le-of-eq, lt-trans}
 use lib.ListN.{length}
 use lib.Dec.{ltb→lt}
 use lib.Ieee.{Float, binary64, mul, le, round}
-use Rattle.elimination.specs.Elimination.{one64, tiny64, eliminate, leftSolved}
+use Rattle.float.specs.Number.{one64, tiny64}
+use Rattle.elimination.specs.Elimination.{eliminate, leftSolved}
 use Rattle.elimination.specs.Ridge.{ten64, ridgesFrom, firstSolved, rightSide, solved, unsolved}
 
 -- one ridge more, or the end

@@ -7,18 +7,13 @@ use Prim.Native.Nat.{ℕ, zero, suc, _+_, _-_, _^_}
 use lib.ListN.{length, getD, take, drop, set}
 use lib.Dec.{ltb, eqb}
 use lib.IntN.{pos}
-use lib.Ieee.{Float, nan, fin, binary64, round, add, sub, mul, div, lt, le, eq}
+use lib.Ieee.{Float, nan, fin, binary64, add, sub, mul, div, lt, le, eq}
 use Rattle.matrix.specs.Rows.{rowsOf, flat, swapped}
-use Rattle.matrix.specs.Cells.{zero64}
-use Rattle.elimination.specs.Rows.{rowOf, indexed, zipped}
+use Rattle.float.specs.Number.{zero64, one64, tiny64}
+use Rattle.matrix.specs.Lists.{zipped}
+use Rattle.elimination.specs.Rows.{rowOf, indexed}
 
--- 1.0, the f64 nearest to 1E-8, and the lowest finite f64
-abbrev pub one64 : Float
-one64 = fin false 1 (pos 0)
-
-abbrev pub tiny64 : Float
-tiny64 = round binary64 false 1 (10 ^ 8)
-
+-- the lowest finite f64
 abbrev pub lowest64 : Float
 lowest64 = fin true (2 ^ 53 - 1) (pos 971)
 

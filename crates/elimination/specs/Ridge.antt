@@ -6,7 +6,8 @@ use lib.ListN.{drop}
 use lib.IntN.{pos}
 use lib.Ieee.{Float, fin, binary64, mul, le}
 use Rattle.matrix.specs.Rows.{flat}
-use Rattle.elimination.specs.Elimination.{one64, tiny64, eliminate, leftSolved}
+use Rattle.float.specs.Number.{one64, tiny64}
+use Rattle.elimination.specs.Elimination.{eliminate, leftSolved}
 
 abbrev pub ten64 : Float
 ten64 = fin false 5 (pos 1)
@@ -24,6 +25,11 @@ ridges = ridgesFrom 16 tiny64
 pub data Solution : Type 0 where
   solved : Float → List Float → Solution
   unsolved : Solution
+
+-- a list of as many cells as the solution has, after it: only a solution changes it
+abbrev pub written : Solution → List Float → List Float
+written (solved ridge cells) held = cells
+written unsolved held = held
 
 -- the right side's cells
 abbrev pub rightSide : ℕ → List (List Float) → List Float

@@ -19,12 +19,6 @@ augmented [] right = []
 augmented (l ∷ left) [] = []
 augmented (l ∷ left) (r ∷ right) = (l ++ r) ∷ augmented left right
 
--- the first list, each cell that has one beside it in the second made anew from the two
-unfoldable pub zipped : {A B : Type 0} → (A → B → A) → List A → List B → List A
-zipped g [] src = []
-zipped g (d ∷ dst) [] = d ∷ dst
-zipped g (d ∷ dst) (s ∷ src) = g d s ∷ zipped g dst src
-
 -- a system of n equations in rows of w cells, as the elimination takes it
 pub record Shape {A : Type 0} (n w : ℕ) (cells : List A) : Type 0 where
   pub order : n ≤ 100

@@ -3,7 +3,7 @@ ghost use mathlib.Core.Path.{_≡_};
 ghost use mathlib.Core.List.{map};
 ghost use Prim.Native.Nat.{_≤_, _<_};
 ghost use lib.ListN.{length};
-ghost use Rattle.elimination.specs.Rows.{zipped};
+ghost use Rattle.matrix.specs.Lists.{zipped};
 ghost use Rattle.elimination.specs.Elimination.{lessScaled, dividedBy, zeros, cleared, divided, lessMultiple};
 
 // Subtracts `factor` times `src` from `dst`, cell by cell, each product and each difference rounded once.

@@ -12,7 +12,7 @@ use lib.ListN.{length, getD}
 use mir.Facts.{and-yes}
 use Rattle.embedding.specs.Count.{howMany, oneOf, range, tallied, AllBelow, total}
 use Rattle.embedding.specs.Classes.{classCounts, classSums, classNumber, classes}
-use Rattle.embedding.specs.Design.{cell}
+use Rattle.float.specs.Number.{number}
 use Rattle.embedding.proofs.Counting.{howMany-le, howMany-map, tally-part, total-tally, all-below, allb, distinct}
 
 -- every class holds different numbers below 26
@@ -60,6 +60,6 @@ unfolding classCounts
 length-classCounts letters = refl
 
 -- what came back from writing the class counts
-pub classes-written : (letters cs : List ℕ) (rest back : List Float) → back ≡ map cell (classSums cs) ++ rest
-    → cs ≡ tallied (range 0 26) (map classNumber letters) → back ≡ map cell (classCounts letters) ++ rest
-classes-written letters cs rest back e h = e ∙ ap (λ (l : List ℕ). map cell l ++ rest) (ap classSums h ∙ class-sums letters)
+pub classes-written : (letters cs : List ℕ) (rest back : List Float) → back ≡ map number (classSums cs) ++ rest
+    → cs ≡ tallied (range 0 26) (map classNumber letters) → back ≡ map number (classCounts letters) ++ rest
+classes-written letters cs rest back e h = e ∙ ap (λ (l : List ℕ). map number l ++ rest) (ap classSums h ∙ class-sums letters)

@@ -11,7 +11,8 @@ use lib.ListN.{length, length-append, getD, set, take, drop, length-take, length
 use lib.Seq.{take-nil, take-at, drop-at, drop-append-le, drop-drop}
 use Rattle.mass.specs.Mass.{columnOf}
 use Rattle.embedding.specs.Count.{range, tallied}
-use Rattle.embedding.specs.Design.{cell, everywhere, chosen, columnCounts, counts, block}
+use Rattle.float.specs.Number.{number}
+use Rattle.embedding.specs.Design.{everywhere, chosen, columnCounts, counts, block}
 use Rattle.embedding.proofs.Positions.{chosen-everywhere}
 
 -- one cell more is made from an element
@@ -63,11 +64,11 @@ next-block {A} a k w done b old row back so size fits room e = record {
 
 -- ---- constants of the code
 
-pub one : ofBits binary64 4607182418800017408 ≡ cell 1
+pub one : ofBits binary64 4607182418800017408 ≡ number 1
 unfolding ofBits ofInt
 one = refl
 
-pub thousand : ofBits binary64 4652007308841189376 ≡ cell 1000
+pub thousand : ofBits binary64 4652007308841189376 ≡ number 1000
 unfolding ofBits ofInt
 thousand = refl
 
@@ -87,10 +88,10 @@ unfolding block
 length-block sel letters = refl
 
 -- what came back from counting a part that holds the letters at the positions that pass
-pub embedded : (letters : List ℕ) (sel : ℕ → ℕ → Bool) (held : List ℕ) (rest back : List Float) → back ≡ map cell (columnCounts held) ++ rest
+pub embedded : (letters : List ℕ) (sel : ℕ → ℕ → Bool) (held : List ℕ) (rest back : List Float) → back ≡ map number (columnCounts held) ++ rest
     → held ≡ chosen sel letters → back ≡ block sel letters ++ rest
 unfolding block counts
-embedded letters sel held rest back e h = e ∙ ap (λ (l : List ℕ). map cell (columnCounts l) ++ rest) h
+embedded letters sel held rest back e h = e ∙ ap (λ (l : List ℕ). map number (columnCounts l) ++ rest) h
 
 -- what came back from writing the 26 counters of all letters, each made a cell
 pub written : (g : ℕ → Float) (letters cs : List ℕ) (rest back : List Float) → back ≡ map g (take 22 cs) ++ rest

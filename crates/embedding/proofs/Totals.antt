@@ -13,7 +13,8 @@ use Rattle.mass.proofs.Laws.{column-below}
 use Rattle.embedding.specs.declared.Model.{Model}
 use Rattle.embedding.specs.declared.Model.the-variants.{Retention, Mobility}
 use Rattle.embedding.specs.Count.{oneOf, range, total}
-use Rattle.embedding.specs.Design.{orderOf, everywhere, nTerminal, cTerminal, chosen, counts, cell, block, design, nTerminalAt, cTerminalAt}
+use Rattle.float.specs.Number.{number}
+use Rattle.embedding.specs.Design.{orderOf, everywhere, nTerminal, cTerminal, chosen, counts, block, design, nTerminalAt, cTerminalAt}
 use Rattle.embedding.proofs.Counting.{howMany-all, howMany-map, total-tally, distinct, one-of-range}
 use Rattle.embedding.proofs.Positions.{chosen-everywhere, chosen-n, chosen-c, endOf}
 
@@ -48,7 +49,7 @@ length-c Mobility letters = ap length (chosen-c Mobility letters) ∙ simp (leng
 -- the 22 cells from a column on are whole numbers that total n
 pub record Block (at n : ℕ) (row : List Float) : Type 0 where
   pub numbers : List ℕ
-  pub cells : take 22 (drop at row) ≡ map cell numbers
+  pub cells : take 22 (drop at row) ≡ map number numbers
   pub totals : total numbers ≡ n
 
 pub record Totals (model : Model) (n : ℕ) (row : List Float) : Type 0 where

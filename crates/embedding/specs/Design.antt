@@ -4,8 +4,8 @@ use mathlib.Core.Bool.{Bool, true, not, _&&_, _||_}
 use mathlib.Core.List.{List, [], _∷_, _++_, map}
 use lib.Dec.{eqb, ltb}
 use lib.ListN.{length}
-use lib.IntN.{pos}
-use lib.Ieee.{Float, binary64, ofInt, div}
+use lib.Ieee.{Float, binary64, div}
+use Rattle.float.specs.Number.{number}
 use Rattle.mass.specs.Mass.{columnOf}
 use Rattle.embedding.specs.declared.Model.{Model}
 use Rattle.embedding.specs.declared.Model.the-variants.{Retention, Mobility}
@@ -48,18 +48,14 @@ counts sel letters = columnCounts (chosen sel letters)
 
 -- ---- cells
 
--- a whole number: 1.0 is `cell 1`
-abbrev pub cell : ℕ → Float
-cell n = ofInt binary64 (pos n)
-
 -- a count's share of a length: NaN for the empty peptide
 abbrev pub share : ℕ → ℕ → Float
-share n c = div binary64 (cell c) (cell n)
+share n c = div binary64 (number c) (number n)
 
 -- the counts at the positions that pass, as cells
 unfoldable pub block : (ℕ → ℕ → Bool) → List ℕ → List Float
 unfolding counts
-block sel letters = map cell (counts sel letters)
+block sel letters = map number (counts sel letters)
 
 -- ---- rows
 
@@ -67,13 +63,13 @@ block sel letters = map cell (counts sel letters)
 unfoldable pub retentionRow : List ℕ → Float → List Float
 unfolding block
 retentionRow letters log =
-    block everywhere letters ++ block nTerminal letters ++ block (cTerminal Retention) letters ++ cell (length letters) ∷ log ∷ cell 1 ∷ []
+    block everywhere letters ++ block nTerminal letters ++ block (cTerminal Retention) letters ++ number (length letters) ∷ log ∷ number 1 ∷ []
 
 -- the last columns: 1/charge, charge, (mass/charge)/1000, length n, mass/1000, 1.0. Charge 0 gives an infinite 1/charge.
 unfoldable pub mobilityScalars : ℕ → Float → ℕ → List Float
 mobilityScalars n mass charge =
-    let z = cell charge in
-    div binary64 (cell 1) z ∷ z ∷ div binary64 (div binary64 mass z) (cell 1000) ∷ cell n ∷ div binary64 mass (cell 1000) ∷ cell 1 ∷ []
+    let z = number charge in
+    div binary64 (number 1) z ∷ z ∷ div binary64 (div binary64 mass z) (number 1000) ∷ number n ∷ div binary64 mass (number 1000) ∷ number 1 ∷ []
 
 unfoldable pub mobilityRow : List ℕ → Float → ℕ → List Float
 unfolding block counts classCounts mobilityScalars
@@ -82,7 +78,7 @@ mobilityRow letters mass charge =
     ++ map (share (length letters)) (counts everywhere letters)
     ++ block nTerminal letters
     ++ block (cTerminal Mobility) letters
-    ++ map cell (classCounts letters)
+    ++ map number (classCounts letters)
     ++ mobilityScalars (length letters) mass charge
 
 -- the row of a peptide: of its log for retention, of its mass and a charge for mobility

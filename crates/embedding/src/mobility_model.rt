@@ -3,7 +3,8 @@ ghost use mathlib.Core.Path.{_≡_};
 ghost use mathlib.Core.List.{_++_, map};
 ghost use Prim.Native.Nat.{_≤_, _<_, _^_};
 ghost use lib.ListN.{length, drop, getD};
-ghost use Rattle.embedding.specs.Design.{chosen, cTerminal, cell, mobilityScalars, mobilityRow};
+ghost use Rattle.float.specs.Number.{number};
+ghost use Rattle.embedding.specs.Design.{chosen, cTerminal, mobilityScalars, mobilityRow};
 ghost use Rattle.embedding.specs.Classes.{classSums};
 ghost use Rattle.embedding.specs.Count.{AllBelow, total};
 ghost use Rattle.embedding.specs.declared.Model.{Model};
@@ -57,7 +58,7 @@ fn put_classes(counts: &[u32], row: &mut [f64])
     requires { ⌜ 26 ≤ length (now counts) ⌝ }
     requires { ⌜ AllBelow (2 ^ 32) (classSums (now counts)) ⌝ }
     requires { ⌜ 6 ≤ length (now row) ⌝ }
-    ensures { λ _. ⌜ now (row .exit) ≡ map cell (classSums (now (counts .entry))) ++ drop 6 (now (row .entry)) ⌝ }
+    ensures { λ _. ⌜ now (row .exit) ≡ map number (classSums (now (counts .entry))) ++ drop 6 (now (row .entry)) ⌝ }
 {
     row[0] = float::u32_to_f64(class_count(counts, &BRANCHED_AA_IDXS));
     row[1] = float::u32_to_f64(class_count(counts, &TINY_AA_IDXS));

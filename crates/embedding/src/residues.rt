@@ -5,7 +5,8 @@ ghost use Prim.Native.Nat.{_≤_, _<_, _^_, _+_, _-_};
 ghost use lib.ListN.{length, take, drop};
 ghost use Rattle.mass.specs.Mass.{columnOf};
 ghost use Rattle.embedding.specs.Count.{tallied, range};
-ghost use Rattle.embedding.specs.Design.{chosen, nTerminal, columnCounts, cell, share};
+ghost use Rattle.float.specs.Number.{number};
+ghost use Rattle.embedding.specs.Design.{chosen, nTerminal, columnCounts, share};
 
 // How many letters have each column. A column is below 22; the counters from 22 on stay 0.
 pub(crate) fn tally(letters: &[u8]) -> [u32; 26]
@@ -25,7 +26,7 @@ pub(crate) fn tally(letters: &[u8]) -> [u32; 26]
 // Writes the counts of the 22 columns into the first cells of `row`.
 pub(crate) fn put_counts(counts: &[u32], row: &mut [f64])
     requires { ⌜ (22 ≤ length (now counts)) × (22 ≤ length (now row)) ⌝ }
-    ensures { λ _. ⌜ now (row .exit) ≡ map cell (take 22 (now (counts .entry))) ++ drop 22 (now (row .entry)) ⌝ }
+    ensures { λ _. ⌜ now (row .exit) ≡ map number (take 22 (now (counts .entry))) ++ drop 22 (now (row .entry)) ⌝ }
 {
     let mut k = 0;
     while k < 22 {
@@ -51,7 +52,7 @@ pub(crate) fn put_shares(counts: &[u32], length: u32, row: &mut [f64])
 pub(crate) fn embed_part(part: &[u8], row: &mut [f64])
     requires { ⌜ length (now part) < 2 ^ 32 ⌝ }
     requires { ⌜ 22 ≤ length (now row) ⌝ }
-    ensures { λ _. ⌜ now (row .exit) ≡ map cell (columnCounts (now (part .entry))) ++ drop 22 (now (row .entry)) ⌝ }
+    ensures { λ _. ⌜ now (row .exit) ≡ map number (columnCounts (now (part .entry))) ++ drop 22 (now (row .entry)) ⌝ }
 {
     let counts = tally(part);
     put_counts(&counts, row);

@@ -3,7 +3,8 @@ ghost use mathlib.Core.Path.{_≡_};
 ghost use mathlib.Core.List.{_++_, _∷_, []};
 ghost use Prim.Native.Nat.{_≤_, _<_, _^_};
 ghost use lib.ListN.{length, drop};
-ghost use Rattle.embedding.specs.Design.{chosen, cTerminal, cell, retentionRow};
+ghost use Rattle.float.specs.Number.{number};
+ghost use Rattle.embedding.specs.Design.{chosen, cTerminal, retentionRow};
 ghost use Rattle.embedding.specs.declared.Model.{Model};
 use crate::residues::embed_part;
 use crate::residues::n_terminal;
@@ -26,7 +27,7 @@ fn c_terminal(letters: &[u8]) -> &[u8]
 // Writes the columns after the counts: length, logged mass, intercept.
 fn put_scalars(length: u32, log: f64, row: &mut [f64])
     requires { ⌜ 3 ≤ lib.ListN.length (now row) ⌝ }
-    ensures { λ _. ⌜ now (row .exit) ≡ (cell length ∷ log ∷ cell 1 ∷ []) ++ drop 3 (now (row .entry)) ⌝ }
+    ensures { λ _. ⌜ now (row .exit) ≡ (number length ∷ log ∷ number 1 ∷ []) ++ drop 3 (now (row .entry)) ⌝ }
 {
     row[0] = float::u32_to_f64(length);
     row[1] = log;

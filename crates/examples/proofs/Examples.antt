@@ -9,12 +9,13 @@ use Rattle.mass.specs.Mass.{columnOf, placeFrom, validAa}
 use Rattle.matrix.specs.Rows.{rowsOf, flat}
 use Rattle.feature.specs.Checks.{every}
 use Rattle.feature.specs.Feature.{trains, mask, kept}
-use Rattle.elimination.specs.Rows.{indexed, augmented, zipped}
+use Rattle.matrix.specs.Lists.{zipped, tabulate}
+use Rattle.elimination.specs.Rows.{indexed, augmented}
 use Rattle.elimination.specs.Elimination.{largest, cleared, clearBelow, eliminated, echelonFrom, zeros, divided, lessMultiple, clearAbove, backfillFrom, rowSolved, solvedFrom, eliminate}
 use Rattle.elimination.specs.Ridge.{ridgesFrom, firstSolved}
 use Rattle.gauss.specs.Solve.{solutionOf}
 use Rattle.embedding.specs.Design.{design}
-use Rattle.rt_matrix.specs.Line.{tabulate, share, present, mean, keptRows, pointOf, points, finiteOr, lineOf, line, lines}
+use Rattle.rt_matrix.specs.Line.{share, present, mean, keptRows, pointOf, points, finiteOr, lineOf, line, lines}
 use Rattle.retention_alignment.specs.Observation.{observations, maxRt, maxRts, times, smaller, minRt, minRts}
 use Rattle.retention_alignment.specs.Alignments.{alignments, alignedBy, aligned}
 use Rattle.retention_alignment.specs.Call.{firstFailed, statusOf, filled, slicesAfter}

@@ -2,15 +2,16 @@
 use Prim.Native.Nat.{ℕ}
 use Prim.Native.String.{String}
 use mathlib.Core.Bool.{Bool, true, false, _&&_}
-use mathlib.Core.List.{List, [], _∷_, _++_, map, foldl}
+use mathlib.Core.List.{List, [], _∷_, _++_, map}
 use lib.Dec.{eqb}
 use lib.IntN.{pos}
 use lib.ListN.{length, replicate, take, drop}
-use lib.Ieee.{Float, Format, nan, binary32, binary64, add, ofBits, toBits}
+use lib.Ieee.{Float, Format, nan, binary32, binary64, ofBits, toBits}
 use Rattle.text.specs.Ascii.{ascii}
 use Rattle.embedding.specs.declared.Model.{Model}
 use Rattle.embedding.specs.declared.Model.the-variants.{Retention, Mobility}
-use Rattle.embedding.specs.Design.{cell, design, cTerminalAt}
+use Rattle.float.specs.Number.{number, sumFrom}
+use Rattle.embedding.specs.Design.{design, cTerminalAt}
 use Rattle.elimination.specs.Ridge.{Solution, solved, unsolved}
 use Rattle.gauss.specs.Solve.{solutionOf, statusFor, checked, needed, outputs}
 use Rattle.retention_alignment.specs.Observation.{maxRts}
@@ -90,25 +91,25 @@ text (s ∷ ss) = ascii s ++ 10 ∷ text ss
 
 -- k cells of a peptide's row from a column on. None of the examples looks at the log, the mass or the charge.
 abbrev pub cellsAt : Model → List ℕ → ℕ → ℕ → List Float
-cellsAt model letters at k = take k (drop at (design model letters (cell 0) (cell 0) 1))
+cellsAt model letters at k = take k (drop at (design model letters (number 0) (number 0) 1))
 
 -- the C-terminal counts
 abbrev pub cTerminal : Model → List ℕ → List Float
 cTerminal model letters = cellsAt model letters (cTerminalAt model) 22
 
 abbrev pub total : List Float → Float
-total cells = foldl (add binary64) (cell 0) cells
+total cells = sumFrom (number 0) cells
 
 -- numbers as the bits of cells
 abbrev pub whole : List ℕ → List ℕ
-whole ns = bits binary64 (map cell ns)
+whole ns = bits binary64 (map number ns)
 
 -- ---- the solver
 
 -- a status and, for a solved system, the ridge and the solution as bits
 abbrev pub answer : ℕ → Solution → List ℕ
-answer number (solved ridge cells) = number ∷ bits binary64 (ridge ∷ cells)
-answer number unsolved = number ∷ []
+answer status (solved ridge cells) = status ∷ bits binary64 (ridge ∷ cells)
+answer status unsolved = status ∷ []
 
 -- of the system of order n with one right column, its sides given as bits
 abbrev pub solution : ℕ → List ℕ → List ℕ → List ℕ

@@ -1,5 +1,7 @@
 -- The statuses of document 01's table (the paper's refusal numbers), in the order in which they are checked. Assumes nothing.
 use Prim.Native.Nat.{ℕ}
+use mathlib.Core.Bool.{Bool, cond}
+use mathlib.Core.List.{List, [], _∷_}
 
 -- accepted
 abbrev pub accepted : ℕ
@@ -44,3 +46,8 @@ noTraining = 8
 -- no ridge solves it
 abbrev pub notSolved : ℕ
 notSolved = 9
+
+-- the status of the first check that fails
+abbrev pub firstFailing : List (ℕ × Bool) → ℕ
+firstFailing [] = accepted
+firstFailing (check ∷ checks) = cond (check .1) (firstFailing checks) (check .0)

@@ -2,3 +2,4 @@
 pub mod Convert
 pub mod Value
 pub mod Hex
+pub mod Number

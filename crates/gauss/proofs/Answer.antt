@@ -1,7 +1,7 @@
 -- The checks and the contract of `solve`, from what stands behind them. Assumes nothing.
 use mathlib.Core.Path.{_≡_, refl, sym, ap, _∙_}
 use mathlib.Core.List.{List, _++_}
-use mathlib.Core.Bool.{Bool, true, false, _&&_, false≢true}
+use mathlib.Core.Bool.{Bool, true, false, _&&_}
 use Prim.Native.Nat.{ℕ, zero, suc, _+_, _*_, _≤_}
 use native.Mathlib.Nat.{mul-add}
 use native.Mathlib.Omega.{arith}
@@ -10,23 +10,21 @@ use lib.Seq.{length-take-le}
 use lib.Dec.{leb, eqb}
 use lib.Ieee.{Float}
 use borrow.Author.Tests.{leb-true, eqb-true}
-use Rattle.matrix.specs.Cells.{zero64}
-use Rattle.elimination.specs.Ridge.{Solution, solved, unsolved}
-use Rattle.gauss.specs.Solve.{statusOf, outputs, needed, firstFailed, checked, solutionOf, answerOf, workspaceAfter, solutionAfter, statusFor, Solves, written, Accepted, Searched}
+use Rattle.float.specs.Number.{zero64}
+use Rattle.float.proofs.Order.{and-true}
+use Rattle.matrix.proofs.Lists.{overwrite-front}
+use Rattle.elimination.specs.Ridge.{Solution, solved, unsolved, written}
+use Rattle.gauss.specs.Solve.{statusOf, outputs, needed, firstFailed, checked, solutionOf, answerOf, workspaceAfter, solutionAfter, statusFor, Solves, Accepted, Searched}
 use Rattle.gauss.specs.declared.SolveAnswer.{SolveAnswer}
 use Rattle.gauss.specs.declared.SolveAnswer.the-variants.{Refused}
-
-both : (a b : Bool) → (a && b) ≡ true → (a ≡ true) × (b ≡ true)
-both true b e = (refl, e)
-both false b e = absurd (false≢true e)
 
 -- ---- the checks
 
 pub within-limits : (n c : ℕ) → (leb 1 n && leb n 100 && leb 1 c && leb c 8) ≡ true → (n ≤ 100) × (c ≤ 8)
 within-limits n c e =
-    let three = both (leb 1 n && leb n 100 && leb 1 c) (leb c 8) e in
-    let two = both (leb 1 n && leb n 100) (leb 1 c) (three .0) in
-    (leb-true n 100 (both (leb 1 n) (leb n 100) (two .0) .1), leb-true c 8 (three .1))
+    let three = and-true (leb 1 n && leb n 100 && leb 1 c) (leb c 8) e in
+    let two = and-true (leb 1 n && leb n 100) (leb 1 c) (three .0) in
+    (leb-true n 100 (and-true (leb 1 n) (leb n 100) (two .0) .1), leb-true c 8 (three .1))
 
 -- what holds where no check fails
 pub record Passed (left right n c workspace solution : ℕ) : Type 0 where
@@ -49,9 +47,9 @@ passed left right n c workspace solution e =
     let limits : Bool = leb 1 n && leb n 100 && leb 1 c && leb c 8 in
     let room : Bool = leb (needed n c) workspace && leb (outputs n c) solution in
     let all = all-hold sides limits room e in
-    let s = both (eqb left (n * n)) (eqb right (n * c)) (all .0) in
+    let s = and-true (eqb left (n * n)) (eqb right (n * c)) (all .0) in
     let l = within-limits n c (all .1) in
-    let r = both (leb (needed n c) workspace) (leb (outputs n c) solution) (all .2) in
+    let r = and-true (leb (needed n c) workspace) (leb (outputs n c) solution) (all .2) in
     record {
       order = l .0;
       columns = l .1;
@@ -91,30 +89,31 @@ module _ (left right : List Float) (n c : ℕ) (workspace solution : List Float)
         answer = ap (λ (k : ℕ). answerOf k (solutionOf n c left right)) e;
         status = ap (λ (k : ℕ). statusFor k (solutionOf n c left right)) e;
         workspace = ap (λ (k : ℕ). workspaceAfter k (needed n c) workspace) e;
-        solution = ap (λ (k : ℕ). solutionAfter k (solutionOf n c left right) (outputs n c) solution) e;
+        solution = ap (λ (k : ℕ). solutionAfter k (solutionOf n c left right) solution) e;
       }
 
-  written-is : (s : Solution) → written s (take (outputs n c) solution) ++ drop (outputs n c) solution ≡ solutionAfter 0 s (outputs n c) solution
-  written-is (solved eps cells) = refl
-  written-is unsolved = take-append-drop (outputs n c) solution
+  -- the part of the output that was lent, in front of the rest
+  written-is : (s : Solution) (cells : List Float) → cells ≡ written s (take (outputs n c) solution) → length cells ≡ outputs n c → cells ++ drop (outputs n c) solution ≡ solutionAfter 0 s solution
+  written-is (solved eps x) cells e l = overwrite-front x cells solution (outputs n c) e l
+  written-is unsolved cells e l = ap (λ (t : List Float). t ++ drop (outputs n c) solution) e ∙ take-append-drop (outputs n c) solution
 
   -- an accepted one
   pub answered : (q : ℕ) → q ≡ checked (length left) (length right) n c (length workspace) (length solution) → q ≡ 0
-      → needed n c ≤ length workspace → (r : SolveAnswer) (cells cells₁ : List Float)
+      → needed n c ≤ length workspace → outputs n c ≤ length solution → (r : SolveAnswer) (cells cells₁ : List Float)
+      → length cells ≡ length (take (needed n c) workspace) → length cells₁ ≡ length (take (outputs n c) solution)
       → Searched (solutionOf n c left right) r (take (needed n c) workspace) cells (take (outputs n c) solution) cells₁
       → Solves left right n c workspace solution r (cells ++ drop (needed n c) workspace) (cells₁ ++ drop (outputs n c) solution)
-  answered q e z room r cells cells₁ s =
+  answered q e z room long r cells cells₁ lc ls s =
       let k : 0 ≡ checked (length left) (length right) n c (length workspace) (length solution) = sym z ∙ e in
       let sol : Solution = solutionOf n c left right in
+      let count : length (take (needed n c) workspace) ≡ needed n c = length-take-le (needed n c) workspace room in
       record {
         answer = s .answer ∙ ap (λ (j : ℕ). answerOf j sol) k;
         status = ap statusOf (s .answer) ∙ status-is 0 sol ∙ ap (λ (j : ℕ). statusFor j sol) k;
         workspace =
-            ap {B = List Float} (λ t. t ++ drop (needed n c) workspace)
-            (s .cells ∙ ap (λ (j : ℕ). replicate j zero64) (length-take-le (needed n c) workspace room))
+            overwrite-front (replicate (needed n c) zero64) cells workspace (needed n c) (s .cells ∙ ap (λ (j : ℕ). replicate j zero64) count) (lc ∙ count)
             ∙ ap (λ (j : ℕ). workspaceAfter j (needed n c) workspace) k;
         solution =
-            ap {B = List Float} (λ t. t ++ drop (outputs n c) solution) (s .solution)
-            ∙ written-is sol
-            ∙ ap (λ (j : ℕ). solutionAfter j sol (outputs n c) solution) k;
+            written-is sol cells₁ (s .solution) (ls ∙ length-take-le (outputs n c) solution long)
+            ∙ ap (λ (j : ℕ). solutionAfter j sol solution) k;
       }

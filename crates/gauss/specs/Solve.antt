@@ -1,15 +1,16 @@
 -- What a call of `solve` answers and leaves behind. Definitions only.
-use mathlib.Core.List.{List, [], _∷_, _++_}
+use mathlib.Core.List.{List, [], _∷_}
 use mathlib.Core.Bool.{Bool, true, false, _&&_}
 use mathlib.Core.Path.{_≡_}
 use Prim.Native.Nat.{ℕ, zero, suc, _+_, _*_, _≤_}
-use lib.ListN.{length, drop, replicate}
+use lib.ListN.{length, replicate}
 use lib.Dec.{leb, eqb}
 use lib.Ieee.{Float, nan}
 use Rattle.matrix.specs.Rows.{rowsOf}
-use Rattle.matrix.specs.Cells.{zero64}
+use Rattle.float.specs.Number.{zero64}
+use Rattle.matrix.specs.Lists.{overwritten}
 use Rattle.elimination.specs.Rows.{augmented}
-use Rattle.elimination.specs.Ridge.{ridges, Solution, solved, unsolved, firstSolved}
+use Rattle.elimination.specs.Ridge.{ridges, Solution, solved, unsolved, firstSolved, written}
 use Rattle.gauss.specs.declared.SolveAnswer.{SolveAnswer}
 use Rattle.gauss.specs.declared.SolveAnswer.the-variants.{Solved, Unsolved, Refused}
 
@@ -59,14 +60,14 @@ answerOf (suc k) s = Refused (suc k)
 
 -- the needed cells +0.0 and the others as they were; a refused call changes none
 abbrev pub workspaceAfter : ℕ → ℕ → List Float → List Float
-workspaceAfter zero count held = replicate count zero64 ++ drop count held
+workspaceAfter zero count held = overwritten (replicate count zero64) held
 workspaceAfter (suc k) count held = held
 
 -- the solution's cells and then those beyond as they were; only a solved system changes any
-abbrev pub solutionAfter : ℕ → Solution → ℕ → List Float → List Float
-solutionAfter zero (solved ridge cells) count held = cells ++ drop count held
-solutionAfter zero unsolved count held = held
-solutionAfter (suc k) s count held = held
+abbrev pub solutionAfter : ℕ → Solution → List Float → List Float
+solutionAfter zero (solved ridge cells) held = overwritten cells held
+solutionAfter zero unsolved held = held
+solutionAfter (suc k) s held = held
 
 -- the number for each outcome: that of the check that failed, else 0 for a solution and 9 for none
 abbrev pub statusFor : ℕ → Solution → ℕ
@@ -85,15 +86,9 @@ pub record Solves (left right : List Float) (n c : ℕ) (workspace₀ solution�
       ≡ solutionAfter
       (checked (length left) (length right) n c (length workspace₀) (length solution₀))
       (solutionOf n c left right)
-      (outputs n c)
       solution₀
 
 -- ---- of what stands behind it
-
--- an output of the right length once a system is solved, and what it held otherwise
-abbrev pub written : Solution → List Float → List Float
-written (solved ridge cells) held = cells
-written unsolved held = held
 
 -- sides and slices of the right lengths, within the limits
 pub record Accepted (left right : List Float) (n c : ℕ) (cells solution : List Float) : Type 0 where

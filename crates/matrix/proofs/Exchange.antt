@@ -10,17 +10,12 @@ use lib.ListN.{length, getD, set, take, drop, take-append-drop, drop-of-length-l
 use lib.Seq.{drop-nil, take-all, lt-length-set, getD-set-same, getD-set-other, set-getD, set-set, set-comm}
 use Rattle.matrix.specs.Rows.{placeOf, rowsOf, swapped}
 use Rattle.matrix.proofs.Laws.{Wide, wide-getD, setCell, rowsOf-cell, getD-rowsOf}
+use Rattle.matrix.proofs.Lists.{overwrite-suc}
 
 module _ {A : Type 0} where
   -- the first k cells of one list, the others of another
   abbrev pub mix : ℕ → List A → List A → List A
   mix k xs ys = take k xs ++ drop k ys
-
-  pub mix-suc : (k : ℕ) (xs ys : List A) (d : A) → k < length xs → k < length ys → set (mix k xs ys) k (getD xs k d) ≡ mix (suc k) xs ys
-  mix-suc k [] ys d h m = absurd (not-suc-le-zero h)
-  mix-suc k (x ∷ xs) [] d h m = absurd (not-suc-le-zero m)
-  mix-suc zero (x ∷ xs) (y ∷ ys) d h m = refl
-  mix-suc (suc k) (x ∷ xs) (y ∷ ys) d h m = ap (λ (t : List A). x ∷ t) (mix-suc k xs ys d (le-of-suc-le-suc h) (le-of-suc-le-suc m))
 
   -- cell k of the mix is still the second list's
   pub getD-mix : (k : ℕ) (xs ys : List A) (d : A) → k ≤ length xs → getD (mix k xs ys) k d ≡ getD ys k d
@@ -68,7 +63,7 @@ module _ {A : Type 0} where
   exchanged-suc k i j rows d hi hj li lj = cases (ℕ-discrete i j)
     where
       more : (xs ys : List A) → k < length xs → k < length ys → set (mix k xs ys) k (getD (mix k ys xs) k d) ≡ mix (suc k) xs ys
-      more xs ys h m = ap (set (mix k xs ys) k) (getD-mix k ys xs d (omega arith)) ∙ mix-suc k xs ys d h m
+      more xs ys h m = ap (set (mix k xs ys) k) (getD-mix k ys xs d (omega arith)) ∙ overwrite-suc xs ys k d h m
 
       cases : Dec (i ≡ j) → setCell j k (getD (getD (exchanged k i j rows) i []) k d) (setCell i k (getD (getD (exchanged k i j rows) j []) k d) (exchanged k i j rows)) ≡ exchanged (suc k) i j rows
       cases (yes e) = rw (← e, exchanged-same k i rows, exchanged-same (suc k) i rows, setCell-same i k rows d, setCell-same i k rows d)

@@ -2,7 +2,7 @@
 -- A part that was lent as `&mut cells[a..e]` comes back as `put a (e - a) part cells`. Assumes nothing.
 use mathlib.Core.Path.{_≡_, refl, sym, ap, _∙_}
 use mathlib.Core.Logic.{⊎-elim}
-use mathlib.Core.List.{List, [], _∷_, _++_, append-assoc, append-nil}
+use mathlib.Core.List.{List, [], _∷_, _++_, map, append-assoc, append-nil}
 use Prim.Native.Nat.{ℕ, zero, suc, _+_, _-_, _*_, _/_, _%_, _^_, _≤_, _<_}
 use native.Mathlib.Nat.{le-of-suc-le-suc, not-suc-le-zero, zero-mul, mul-zero, eq-zero-or-pos, suc-add, zero-add, add-zero, mul-le-mul-right, mod-lt, div-add-mod', div-lt-iff-lt-mul, mul-add-div-right, div-eq-of-lt, add-left-cancel}
 use native.Mathlib.Omega.{arith}
@@ -288,6 +288,11 @@ module _ {A : Type 0} where
     where
       cell : (p : ℕ) → (p / cols < n) × (p % cols < cols) × (placeOf cols (p / cols) (p % cols) ≡ p) → getD l p d ≡ getD m p d
       cell p s = rw (s .2) at (g (p / cols) (p % cols) (s .0) (s .1))
+
+-- each row made anew by one function
+pub wide-map : {A B : Type 0} (v w : ℕ) (f : List A → List B) → ((r : List A) → length r ≡ v → length (f r) ≡ w) → (rows : List (List A)) → Wide v rows → Wide w (map f rows)
+wide-map v w f h [] a = tt
+wide-map v w f h (r ∷ rows) a = (h r (a .0), wide-map v w f h rows (a .1))
 
 module _ {A : Type 0} where
   -- ---- a list filled from the front with one value

@@ -3,7 +3,7 @@ use Prim.Native.Nat.{ℕ, _+_, _^_, min}
 use mathlib.Core.Bool.{_&&_, cond}
 use mathlib.Core.List.{List}
 use lib.Dec.{ltb}
-use lib.Ieee.{Float, nan, binary64, ofBits}
+use lib.Ieee.{Float, nan}
 use lib.ListN.{length, getD}
 use Rattle.matrix.specs.Rows.{placeOf}
 use Rattle.matrix.specs.declared.Cell.{Cell}
@@ -11,10 +11,6 @@ use Rattle.matrix.specs.declared.Cell.the-variants.{Value, Outside}
 use Rattle.matrix.specs.declared.Col.{Col}
 use Rattle.matrix.specs.declared.ColStep.{ColStep}
 use Rattle.matrix.specs.declared.ColStep.the-variants.{Value as Next, Done}
-
--- +0.0
-abbrev pub zero64 : Float
-zero64 = ofBits binary64 0
 
 -- The cell in that row and column, where the matrix has both and the list reaches that far. Places are numbers of 32 bits: a cell further
 -- on is outside.

@@ -3,8 +3,9 @@
 ghost use mathlib.Core.Path.{_≡_};
 ghost use Prim.Native.Nat.{_+_, _*_, _^_, _≤_, _<_};
 ghost use lib.ListN.{length, replicate};
+ghost use Rattle.float.specs.Number.{zero64};
 ghost use Rattle.matrix.specs.Rows.{placeOf, rowAt, rowsOf, flat, swapped};
-ghost use Rattle.matrix.specs.Cells.{cellOf, stepOf, zero64};
+ghost use Rattle.matrix.specs.Cells.{cellOf, stepOf};
 
 // A peptide's number, and a file's: a row and a column of the matrix of times.
 pub struct PeptideIx(pub u32);

@@ -7,10 +7,11 @@ use native.Mathlib.Nat.{suc-ne-zero}
 use native.Mathlib.Omega.{arith}
 use lib.Ieee.{Float}
 use lib.ListN.{length, take, drop, replicate, length-append, length-drop, length-replicate, replicate-append-replicate, drop-of-length-le}
-use lib.Seq.{take-at, drop-at, take-length}
-use Rattle.matrix.specs.Cells.{zero64}
+use lib.Seq.{drop-at, take-length}
+use Rattle.float.specs.Number.{zero64}
 use Rattle.matrix.specs.Rows.{flat}
 use Rattle.matrix.proofs.Laws.{put}
+use Rattle.matrix.proofs.Lists.{overwrite-whole, take-replicate}
 use Rattle.elimination.specs.Ridge.{solved, unsolved, firstSolved, ridges}
 use Rattle.regression.specs.Regression.{Sample, Fit, fitBy, fitOf, normal, sumsOf, sse, r2Of}
 use Rattle.regression.specs.Solve.{systemLength, SolvedBy, kept as keptRows}
@@ -18,7 +19,8 @@ use Rattle.regression.specs.declared.Sums.{Sums}
 use Rattle.regression.specs.declared.FitOutcome.the-variants.{Solved, NoTrainingRows, NotSolved}
 use Rattle.regression.specs.declared.FirstRidge.the-variants.{Solves, None}
 use Rattle.regression.proofs.Laws.{normal-nil, length-normal, kept-normal, solve-solved, solve-none, fit-none, fit-some}
-use Rattle.model_fit.specs.Shared.{FittedBy, overwritten}
+use Rattle.matrix.specs.Lists.{overwritten}
+use Rattle.model_fit.specs.Shared.{FittedBy}
 
 -- ---- halves of equal cells
 
@@ -27,14 +29,10 @@ module _ {A : Type 0} where
   halves k a = sym (replicate-append-replicate k k a)
 
   pub take-half : (k : ℕ) (a : A) → take k (replicate (k + k) a) ≡ replicate k a
-  take-half k a = ap (take k) (halves k a) ∙ take-at (replicate k a) (replicate k a) k (length-replicate k a)
+  take-half k a = take-replicate k (k + k) a (omega arith)
 
   pub drop-half : (k : ℕ) (a : A) → drop k (replicate (k + k) a) ≡ replicate k a
   drop-half k a = ap (drop k) (halves k a) ∙ drop-at (replicate k a) (replicate k a) k (length-replicate k a)
-
-  -- a list that is written over one of its length
-  pub overwrite-whole : (new old : List A) → length new ≡ length old → overwritten new old ≡ new
-  overwrite-whole new old e = ap (λ (t : List A). new ++ t) (drop-of-length-le old {i = length new} (omega arith)) ∙ append-nil new
 
   no-element : (xs : List A) → length xs ≡ 0 → xs ≡ []
   no-element [] e = refl

@@ -19,7 +19,8 @@ use Rattle.regression.specs.Regression.{Sample}
 use Rattle.model_fit.specs.Input.{Input, Query, queryOf, queries}
 use Rattle.model_fit.specs.Samples.{sampleOf, samples, trainingSamples}
 use Rattle.model_fit.specs.Shared.{Checked}
-use Rattle.model_fit.proofs.Laws.{length-zipWith, getD-zipWith, kept-suc}
+use Rattle.matrix.proofs.Lists.{length-zipWith, getD-zipWith}
+use Rattle.model_fit.proofs.Laws.{kept-suc}
 
 -- a design row has at most 100 columns
 pub order-max : (model : Model) → orderOf model ≤ 100

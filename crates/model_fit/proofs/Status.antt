@@ -8,13 +8,13 @@ use lib.Dec.{ltb}
 use lib.ListN.{length, getD}
 use borrow.Author.Tests.{ltb-true}
 use Rattle.feature.specs.Checks.{every, lengthsAgree, withinRowLimits, allBelow}
-use Rattle.feature.specs.Status.{accepted, badLengths, pastLimit, tooShort, badOffsets, badLetter, badPeptide}
+use Rattle.feature.specs.Status.{accepted, badLengths, pastLimit, tooShort, badOffsets, badLetter, badPeptide, firstFailing}
 use Rattle.feature.proofs.Laws.{and-true, every-at, below-at, length-at, row-limits}
 use Rattle.peptide.specs.Table.{Table, offsetsRight, lettersRight}
 use Rattle.peptide.proofs.Laws.{offsets-peptide}
 use Rattle.embedding.specs.declared.Model.{Model}
 use Rattle.embedding.specs.declared.Model.the-variants.{Retention, Mobility}
-use Rattle.model_fit.specs.Input.{Input, columnsAgree, lengthsRight, checks, firstFailing, statusOf}
+use Rattle.model_fit.specs.Input.{Input, columnsAgree, lengthsRight, checks, statusOf}
 use Rattle.model_fit.specs.Shared.{Listed, Numbered, Checked}
 
 -- the status where the checks have these values

@@ -1,5 +1,5 @@
 -- What a call of either model is passed, the checks of it in document 01's order, and the status. Definitions only.
-use mathlib.Core.Bool.{Bool, _&&_, cond}
+use mathlib.Core.Bool.{Bool, _&&_}
 use mathlib.Core.List.{List, [], _∷_, headD, tail}
 use Prim.Native.Nat.{ℕ, _+_, _*_}
 use lib.Dec.{leb}
@@ -7,7 +7,7 @@ use lib.IntN.{ℤ}
 use lib.Ieee.{Float}
 use lib.ListN.{length}
 use Rattle.feature.specs.Checks.{lengthsAgree, withinRowLimits, allBelow}
-use Rattle.feature.specs.Status.{accepted, badLengths, pastLimit, tooShort, badOffsets, badLetter, badPeptide}
+use Rattle.feature.specs.Status.{badLengths, pastLimit, tooShort, badOffsets, badLetter, badPeptide, firstFailing}
 use Rattle.peptide.specs.Table.{Table, offsetsRight, lettersRight}
 use Rattle.embedding.specs.Design.{orderOf}
 use Rattle.embedding.specs.declared.Model.{Model}
@@ -68,11 +68,6 @@ workspaceCells D = 2 * D * D + 2 * D
 -- the slices that a fit writes are long enough
 abbrev pub fitRoom : Model → (workspace beta : ℕ) → Bool
 fitRoom model workspace beta = leb (workspaceCells (orderOf model)) workspace && leb (orderOf model) beta
-
--- the status of the first check that fails
-abbrev pub firstFailing : List (ℕ × Bool) → ℕ
-firstFailing [] = accepted
-firstFailing (check ∷ checks) = cond (check .1) (firstFailing checks) (check .0)
 
 -- 1, 2, 3, 7, 6, 5, where room says that what the call writes is long enough
 abbrev pub checks : Model → Input → (room : Bool) → List (ℕ × Bool)

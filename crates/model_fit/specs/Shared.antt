@@ -1,12 +1,13 @@
 -- What the functions of the fit are passed and leave. Definitions only.
 use mathlib.Core.Path.{_≡_}
 use mathlib.Core.Bool.{true}
-use mathlib.Core.List.{List, _++_}
+use mathlib.Core.List.{List}
 use Prim.Native.Nat.{ℕ, _≤_, _<_}
 use lib.Ieee.{Float}
-use lib.ListN.{length, drop, replicate}
-use Rattle.matrix.specs.Cells.{zero64}
+use lib.ListN.{length, replicate}
+use Rattle.float.specs.Number.{zero64}
 use Rattle.matrix.specs.Rows.{flat}
+use Rattle.matrix.specs.Lists.{overwritten}
 use Rattle.feature.specs.Checks.{allBelow, maxRows}
 use Rattle.peptide.specs.Table.{Table, HasPeptide, offsetsRight}
 use Rattle.embedding.specs.Design.{orderOf}
@@ -17,10 +18,6 @@ use Rattle.regression.specs.declared.FitOutcome.{FitOutcome}
 use Rattle.regression.specs.declared.FitOutcome.the-variants.{Solved}
 use Rattle.model_fit.specs.Input.{Input}
 use Rattle.model_fit.specs.Samples.{trainingSamples}
-
--- the old cells with the new ones over the first of them
-abbrev pub overwritten : {A : Type 0} → (new old : List A) → List A
-overwritten new old = new ++ drop (length new) old
 
 -- the table has that peptide
 pub record Listed (t : Table) (p : ℕ) : Type 0 where

@@ -3,9 +3,9 @@ ghost use mathlib.Core.Path.{_≡_};
 ghost use mathlib.Core.List.{List, [], _∷_, _++_};
 ghost use Prim.Native.Nat.{_<_};
 ghost use lib.IntN.{pos};
-ghost use lib.Ieee.{nan};
+ghost use lib.Ieee.{nan, binary64, sub};
 ghost use lib.ListN.{length, getD, replicate};
-ghost use Rattle.matrix.specs.Cells.{zero64};
+ghost use Rattle.float.specs.Number.{zero64};
 ghost use Rattle.matrix.specs.Rows.{flat};
 ghost use Rattle.feature.specs.Feature.{trains};
 ghost use Rattle.embedding.specs.Design.{orderOf};
@@ -125,6 +125,13 @@ pub fn predict_peptide(
     regression::predict(&row[..d], beta)
 }
 
+// A prediction less its target.
+fn residual_of(prediction: f64, y: f64) -> f64
+    ensures { λ r. ⌜ r ≡ sub binary64 prediction y ⌝ }
+{
+    prediction - y
+}
+
 // The sum of the squared errors of the training rows.
 fn sum_squares(
     model: Model,
@@ -151,7 +158,8 @@ fn sum_squares(
         let p = peptide[k];
         let ix = PeptideIx(p);
         let z = charge_at(charge, k);
-        let residual = predict_peptide(model, ix, z, letters, offsets, masses, logs, beta) - y;
+        let x = predict_peptide(model, ix, z, letters, offsets, masses, logs, beta);
+        let residual = residual_of(x, y);
         sse = sse + residual * residual;
     }
     sse

@@ -1,7 +1,7 @@
 -- Laws of a call: what a fit leaves in slices that are longer than it needs, and the whole of a call by the status of its checks. Assumes nothing.
 use mathlib.Core.Path.{_≡_, refl, sym, ap, _∙_}
 use mathlib.Core.Bool.{Bool, true, false, cond, _&&_}
-use mathlib.Core.List.{List, [], _∷_, _++_, map, zipWith}
+use mathlib.Core.List.{List, [], _++_, map, zipWith}
 use Prim.Native.Nat.{ℕ, _+_, _≤_}
 use native.Mathlib.Omega.{arith}
 use lib.Dec.{eqb, leb}
@@ -9,7 +9,7 @@ use lib.Ieee.{Float}
 use lib.ListN.{length, take, drop, replicate, length-append, length-drop, length-replicate}
 use lib.Seq.{length-take-le, take-at}
 use borrow.Author.Tests.{leb-true, ne-eqb}
-use Rattle.matrix.specs.Cells.{zero64}
+use Rattle.float.specs.Number.{zero64}
 use Rattle.feature.specs.Status.{accepted}
 use Rattle.feature.proofs.Laws.{and-true}
 use Rattle.embedding.specs.Design.{orderOf}
@@ -21,8 +21,9 @@ use Rattle.regression.specs.declared.FitOutcome.{FitOutcome}
 use Rattle.regression.specs.declared.FitOutcome.the-variants.{Solved, NoTrainingRows, NotSolved}
 use Rattle.model_fit.specs.Input.{Input, queries, fitRoom, workspaceCells}
 use Rattle.model_fit.specs.Samples.{fitOn}
-use Rattle.model_fit.specs.Shared.{overwritten, FittedBy}
-use Rattle.model_fit.proofs.Laws.{overwrite-part, zipWith-append}
+use Rattle.matrix.specs.Lists.{overwritten}
+use Rattle.model_fit.specs.Shared.{FittedBy}
+use Rattle.matrix.proofs.Lists.{overwrite-part, zipWith-append, zipWith-none}
 use Rattle.models.specs.declared.FitAnswer.{FitAnswer}
 use Rattle.models.specs.declared.FitAnswer.the-variants.{Fitted, Refused}
 use Rattle.models.specs.Prediction.{isSolved, predictionOf, errorOf, predictions, errors}
@@ -143,11 +144,6 @@ module _ (model : Model) (i : Input) (w₀ b₀ : List Float) where
 
 -- ---- a call of `predict`
 
-zip-none : {A B C : Type 0} (f : A → B → C) (xs : List A) → zipWith f xs [] ≡ []
-unfolding zipWith
-zip-none f [] = refl
-zip-none f (x ∷ xs) = refl
-
 -- what is written where the fit is solved, and where it is not
 module _ (model : Model) (i : Input) (w₀ w₁ b₀ b₁ : List Float) (r : FitOutcome) (f : FittedWithin model i w₀ w₁ b₀ b₁ r) where
   module _ (e : isSolved r ≡ true) where
@@ -177,7 +173,7 @@ module _ (model : Model) (i : Input) (w₀ w₁ b₀ b₁ : List Float) (r : Fit
 
     pub unsolved-errors : (e₀ : List Float) → e₀ ≡ overwritten (errors model i) e₀
     unsolved-errors e₀ =
-        let z : errors model i ≡ [] = ap (zipWith errorOf (i .observed)) none-predicted ∙ zip-none errorOf (i .observed) in
+        let z : errors model i ≡ [] = ap (zipWith errorOf (i .observed)) none-predicted ∙ zipWith-none errorOf (i .observed) in
         ap (λ (t : List Float). overwritten t e₀) (sym z)
 
 module _ (model : Model) (i : Input) (w₀ b₀ p₀ e₀ : List Float) where

@@ -4,17 +4,16 @@ use mathlib.Core.List.{List, _++_, map, zipWith}
 use Prim.Native.Nat.{ℕ, _+_, _<_}
 use native.Mathlib.Numerals.{add-one}
 use lib.Ieee.{Float, nan, binary64, ofBits, ofInt}
-use lib.IntN.{pos}
 use lib.ListN.{length, getD, set, take, drop, length-map, List·getD-map}
 use Rattle.float.specs.Convert.{narrowed}
 use Rattle.float.specs.Value.{clamped}
-use Rattle.matrix.specs.Cells.{zero64}
+use Rattle.float.specs.Number.{zero64, number}
 use Rattle.peptide.specs.Table.{Table}
 use Rattle.embedding.specs.declared.Model.{Model}
 use Rattle.regression.specs.Regression.{dot}
 use Rattle.model_fit.specs.Input.{queryOf, queries}
 use Rattle.model_fit.specs.Samples.{designOf}
-use Rattle.model_fit.proofs.Laws.{getD-zipWith, overwrite-suc}
+use Rattle.matrix.proofs.Lists.{getD-zipWith, overwrite-suc}
 use Rattle.model_fit.proofs.Rows.{length-queries, getD-queries}
 use Rattle.models.specs.Prediction.{largest, predictionOf, errorOf}
 
@@ -24,7 +23,7 @@ pub write-next : {A : Type 0} (new old cells : List A) (k : ℕ) (v d : A) → k
 write-next new old cells k v d h l e ev = rw (e, ev, add-one k) (overwrite-suc new old k d h l)
 
 -- 2.0 of the code
-pub two : ofBits binary64 4611686018427387904 ≡ ofInt binary64 (pos 2)
+pub two : ofBits binary64 4611686018427387904 ≡ number 2
 unfolding ofBits ofInt
 two = refl
 

@@ -7,7 +7,7 @@ use Prim.Native.Nat.{ℕ}
 use lib.Dec.{eqb, leb}
 use lib.Ieee.{Float}
 use lib.ListN.{length, replicate}
-use Rattle.matrix.specs.Cells.{zero64}
+use Rattle.float.specs.Number.{zero64}
 use Rattle.feature.specs.Status.{accepted}
 use Rattle.embedding.specs.Design.{orderOf}
 use Rattle.embedding.specs.declared.Model.{Model}
@@ -17,7 +17,7 @@ use Rattle.models.specs.declared.FitAnswer.{FitAnswer}
 use Rattle.models.specs.declared.FitAnswer.the-variants.{Fitted, Refused}
 use Rattle.model_fit.specs.Input.{Input, statusOf, fitRoom, workspaceCells}
 use Rattle.model_fit.specs.Samples.{fitOn}
-use Rattle.model_fit.specs.Shared.{overwritten}
+use Rattle.matrix.specs.Lists.{overwritten}
 use Rattle.models.specs.Prediction.{isSolved, predictions, errors}
 
 -- the number of document 01's table for each answer, and the values of a solved fit

@@ -1,11 +1,10 @@
 -- The predictions of a fitted model, and their errors. Definitions only.
 use mathlib.Core.Bool.{Bool, true, false, cond}
 use mathlib.Core.List.{List, [], map, zipWith}
-use lib.IntN.{pos}
-use lib.Ieee.{Float, binary32, binary64, sub, ofInt}
+use lib.Ieee.{Float, binary32, sub}
 use Rattle.float.specs.Convert.{narrowed}
 use Rattle.float.specs.Value.{clamped, magnitude}
-use Rattle.matrix.specs.Cells.{zero64}
+use Rattle.float.specs.Number.{zero64, number}
 use Rattle.peptide.specs.Table.{Table}
 use Rattle.embedding.specs.declared.Model.{Model}
 use Rattle.embedding.specs.declared.Model.the-variants.{Retention, Mobility}
@@ -17,8 +16,8 @@ use Rattle.model_fit.specs.Samples.{designOf, fitOn}
 
 -- predictions are clamped to 0.0 and this
 abbrev pub largest : Model → Float
-largest Retention = ofInt binary64 (pos 1)
-largest Mobility = ofInt binary64 (pos 2)
+largest Retention = number 1
+largest Mobility = number 2
 
 -- the clamped prediction, narrowed to an f32
 abbrev pub predictionOf : Model → Table → (beta : List Float) → Query → Float

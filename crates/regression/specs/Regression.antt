@@ -2,13 +2,11 @@
 -- and every sum goes over the samples in their order, from 0.0. Definitions only.
 use mathlib.Core.List.{List, [], _∷_, _++_, map, zipWith}
 use mathlib.Core.Option.{Option, some, none}
-use Prim.Native.Nat.{ℕ, zero, suc, _+_}
+use Prim.Native.Nat.{ℕ, _+_}
 use lib.ListN.{length, getD}
-use lib.IntN.{pos}
-use lib.Ieee.{Float, nan, binary64, add, sub, mul, div, ofInt}
-use Rattle.matrix.specs.Cells.{zero64}
-use Rattle.elimination.specs.Rows.{zipped}
-use Rattle.elimination.specs.Elimination.{one64}
+use lib.Ieee.{Float, nan, binary64, add, sub, mul, div}
+use Rattle.float.specs.Number.{zero64, one64, number, sumFrom}
+use Rattle.matrix.specs.Lists.{tabulate, zipped}
 use Rattle.elimination.specs.Ridge.{Solution, solved, unsolved, firstSolved, ridges}
 use Rattle.regression.specs.declared.Sums.{Sums}
 use Rattle.regression.specs.declared.FitOutcome.{FitOutcome}
@@ -23,19 +21,9 @@ pub record Sample : Type 0 where
 abbrev pub extended : Sample → List Float
 extended s = s .row ++ s .y ∷ []
 
--- the xs added to a, from the first to the last
-unfoldable pub sumFrom : Float → List Float → Float
-sumFrom a [] = a
-sumFrom a (x ∷ xs) = sumFrom (add binary64 a x) xs
-
 -- the sum of a quantity of each sample
 abbrev pub total : (Sample → Float) → List Sample → Float
 total f ss = sumFrom zero64 (map f ss)
-
--- f 0, f 1, .., f (n - 1)
-unfoldable pub tabulate : {A : Type 0} → ℕ → (ℕ → A) → List A
-tabulate zero f = []
-tabulate (suc n) f = f 0 ∷ tabulate n (λ i. f (suc i))
 
 -- ---- the normal equations, of order D
 
@@ -92,20 +80,16 @@ residual beta s = sub binary64 (dot (s .row) beta) (s .y)
 abbrev pub squaredError : List Float → Sample → Float
 squaredError beta s = mul binary64 (residual beta s) (residual beta s)
 
--- a running sum of squared errors with a sample's added
-abbrev pub plusError : Float → List Float → List Float → Float → Float
-plusError sum beta row y = add binary64 sum (squaredError beta (record { row = row; y = y }))
-
 abbrev pub sse : List Float → List Sample → Float
 sse beta ss = total (squaredError beta) ss
 
 -- sum_y / n
 abbrev pub yMean : Sums → Float
-yMean t = div binary64 (t .«sum_y») (ofInt binary64 (pos (t .n)))
+yMean t = div binary64 (t .«sum_y») (number (t .n))
 
 -- sum_y2 - n × mean × mean, left to right
 abbrev pub yVar : Sums → Float
-yVar t = sub binary64 (t .«sum_y2») (mul binary64 (mul binary64 (ofInt binary64 (pos (t .n))) (yMean t)) (yMean t))
+yVar t = sub binary64 (t .«sum_y2») (mul binary64 (mul binary64 (number (t .n)) (yMean t)) (yMean t))
 
 -- 1 - sse / y_var
 unfoldable pub r2Of : Sums → Float → Float

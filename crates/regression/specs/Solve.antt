@@ -7,8 +7,8 @@ use lib.ListN.{length, take, drop, replicate}
 use lib.Ieee.{Float}
 use Rattle.matrix.specs.Rows.{rowsOf}
 use Rattle.elimination.specs.Elimination.{eliminate, leftSolved}
-use Rattle.elimination.specs.Ridge.{Solution, solved, unsolved}
-use Rattle.matrix.specs.Cells.{zero64}
+use Rattle.elimination.specs.Ridge.{Solution, solved, unsolved, written}
+use Rattle.float.specs.Number.{zero64}
 use Rattle.regression.specs.declared.FirstRidge.{FirstRidge}
 use Rattle.regression.specs.declared.FirstRidge.the-variants.{Solves, None}
 
@@ -35,11 +35,6 @@ pub record Attempted (D : ℕ) (eps : Float) (cells₀ cells₁ : List Float) (r
 abbrev pub ridgeOf : Solution → FirstRidge
 ridgeOf (solved ridge beta) = Solves ridge
 ridgeOf unsolved = None
-
--- a list of as many cells as coefficients, after it: only a solution changes it
-abbrev pub written : Solution → List Float → List Float
-written (solved ridge beta) held = beta
-written unsolved held = held
 
 -- the first ridge that solves the system, and the coefficients
 pub record Found (s : Solution) (beta₀ beta₁ : List Float) (r : FirstRidge) : Type 0 where

@@ -6,7 +6,7 @@ ghost use mathlib.Core.List.{_++_};
 ghost use Prim.Native.Nat.{_+_, _-_, _*_, _≤_, _<_};
 ghost use lib.ListN.{length, drop};
 ghost use Rattle.matrix.specs.Rows.{rowsOf, flat};
-ghost use Rattle.elimination.specs.Rows.{zipped};
+ghost use Rattle.matrix.specs.Lists.{zipped};
 ghost use Rattle.elimination.specs.Ridge.{firstSolved, ridges};
 ghost use Rattle.regression.specs.Solve.{Attempted, Found, SolvedBy, Workspace, kept};
 ghost use Rattle.regression.specs.Regression.{
@@ -16,7 +16,6 @@ ghost use Rattle.regression.specs.Regression.{
   plusScaled,
   plusTarget,
   r2Of,
-  plusError,
 };
 
 // What a fit answers: the ridge that solved the normal equations with r2 and the number of training
@@ -109,14 +108,6 @@ pub fn predict(row: &[f64], beta: &[f64]) -> f64
         k += 1;
     }
     sum
-}
-
-// `sse` with the square of a sample's prediction less its target added.
-pub fn squared_error(sse: f64, row: &[f64], beta: &[f64], y: f64) -> f64
-    ensures { λ r. ⌜ r ≡ plusError sse (now (beta .entry)) (now (row .entry)) y ⌝ }
-{
-    let residual = predict(row, beta) - y;
-    sse + residual * residual
 }
 
 // The share of the targets' variance that a fit with this sum of squared errors explains. It may be

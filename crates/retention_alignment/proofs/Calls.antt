@@ -1,20 +1,21 @@
 -- What a status says of a call, and the contract of a refused and of an accepted one. Assumes nothing.
-use mathlib.Core.Path.{_≡_, refl, sym, ap, ap₂, _∙_}
+use mathlib.Core.Path.{_≡_, refl, sym, ap, _∙_}
 use mathlib.Core.Bool.{Bool, true, false, _&&_, cond}
-use mathlib.Core.List.{List, [], _∷_, _++_, map}
+use mathlib.Core.List.{[], _∷_, _++_, map}
 use Prim.Native.Nat.{ℕ, _*_, _≤_, _<_}
 use native.Mathlib.Omega.{arith}
 use lib.Dec.{eqb, leb}
 use lib.ListN.{length, drop, replicate}
-use lib.Ieee.{Float, binary64, ofBits}
 use borrow.Author.Tests.{leb-true, eq-eqb, ne-eqb}
+use Rattle.float.specs.Number.{zero64}
+use Rattle.matrix.proofs.Lists.{overwrite-front}
 use Rattle.feature.specs.Checks.{allBelow}
 use Rattle.feature.specs.Status.{accepted}
 use Rattle.feature.proofs.Laws.{Limits, limits, length-at, and-true}
 use Rattle.rt_matrix.specs.Cells.{recordsOf}
 use Rattle.rt_matrix.specs.declared.Alignment.{Alignment}
 use Rattle.rt_matrix.proofs.RecordColumns.{columns-are}
-use Rattle.retention_alignment.specs.Call.{Input, Slices, longEnough, statusOf, status, numberOf, answerOf, rows, recordsFor, over, filled, slicesAfter, Written, Aligned}
+use Rattle.retention_alignment.specs.Call.{Input, Slices, longEnough, statusOf, status, numberOf, answerOf, rows, recordsFor, filled, slicesAfter, Written, Aligned}
 use Rattle.retention_alignment.specs.declared.AlignAnswer.{AlignAnswer}
 use Rattle.retention_alignment.specs.declared.AlignAnswer.the-variants.{Accepted, Refused}
 use Rattle.retention_alignment.proofs.Statuses.{all-passed}
@@ -86,10 +87,6 @@ refused i s n e h =
       aligned = ap (λ (t : Slices). t .aligned) same;
     }
 
--- a part that was borrowed and written comes back in front of the rest
-over-is : (new part old : List Float) (n : ℕ) → part ≡ new → length part ≡ n → part ++ drop n old ≡ over new old
-over-is new part old n e l = ap₂ (λ (a : List Float) (k : ℕ). a ++ drop k old) e (sym l ∙ ap length e)
-
 -- an accepted call, from what the work on the parts left
 pub accepted-is : (i : Input) (before parts : Slices) (cells : ℕ) → status i before ≡ 0 → cells ≡ i .peptides * i .files → Written i parts
     → length (parts .workspace) ≡ cells → length (parts .maxRt) ≡ i .files → length (parts .slope) ≡ i .files → length (parts .intercept) ≡ i .files → length (parts .aligned) ≡ length (i .file)
@@ -108,9 +105,9 @@ accepted-is i before parts cells e n w lw lm ls li la =
     record {
       answer = sym (ap (λ (b : Bool). cond b Accepted (Refused (status i before))) test);
       number = sym e;
-      workspace = over-is (replicate (i .peptides * i .files) (ofBits binary64 0)) (parts .workspace) (before .workspace) cells (w .workspace) lw ∙ ap (λ (t : Slices). t .workspace) now;
-      maxRt = over-is (map (λ (a : Alignment). a .«max_rt») (recordsFor i)) (parts .maxRt) (before .maxRt) (i .files) (sym (columns .0) ∙ ap (map (λ (a : Alignment). a .«max_rt»)) (w .records)) lm ∙ ap (λ (t : Slices). t .maxRt) now;
-      slope = over-is (map (λ (a : Alignment). a .slope) (recordsFor i)) (parts .slope) (before .slope) (i .files) (sym (columns .1) ∙ ap (map (λ (a : Alignment). a .slope)) (w .records)) ls ∙ ap (λ (t : Slices). t .slope) now;
-      intercept = over-is (map (λ (a : Alignment). a .intercept) (recordsFor i)) (parts .intercept) (before .intercept) (i .files) (sym (columns .2) ∙ ap (map (λ (a : Alignment). a .intercept)) (w .records)) li ∙ ap (λ (t : Slices). t .intercept) now;
-      aligned = over-is _ (parts .aligned) (before .aligned) (length (i .file)) (w .aligned) la ∙ ap (λ (t : Slices). t .aligned) now;
+      workspace = overwrite-front (replicate (i .peptides * i .files) zero64) (parts .workspace) (before .workspace) cells (w .workspace) lw ∙ ap (λ (t : Slices). t .workspace) now;
+      maxRt = overwrite-front (map (λ (a : Alignment). a .«max_rt») (recordsFor i)) (parts .maxRt) (before .maxRt) (i .files) (sym (columns .0) ∙ ap (map (λ (a : Alignment). a .«max_rt»)) (w .records)) lm ∙ ap (λ (t : Slices). t .maxRt) now;
+      slope = overwrite-front (map (λ (a : Alignment). a .slope) (recordsFor i)) (parts .slope) (before .slope) (i .files) (sym (columns .1) ∙ ap (map (λ (a : Alignment). a .slope)) (w .records)) ls ∙ ap (λ (t : Slices). t .slope) now;
+      intercept = overwrite-front (map (λ (a : Alignment). a .intercept) (recordsFor i)) (parts .intercept) (before .intercept) (i .files) (sym (columns .2) ∙ ap (map (λ (a : Alignment). a .intercept)) (w .records)) li ∙ ap (λ (t : Slices). t .intercept) now;
+      aligned = overwrite-front _ (parts .aligned) (before .aligned) (length (i .file)) (w .aligned) la ∙ ap (λ (t : Slices). t .aligned) now;
     }

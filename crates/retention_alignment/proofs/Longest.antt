@@ -9,7 +9,7 @@ use lib.ListN.{length, getD, set}
 use lib.Seq.{getD-set-same, getD-set-other, ext-getD}
 use borrow.Author.Tests.{eqb-true, eqb-false}
 use Rattle.float.specs.Convert.{ceiling}
-use Rattle.rt_matrix.proofs.Lists.{length-tabulate, getD-tabulate}
+use Rattle.matrix.proofs.Lists.{length-tabulate, getD-tabulate}
 use Rattle.retention_alignment.specs.Observation.{Obs, maxRt, maxRts}
 
 -- a row more: its file's longest time is made anew, and what is left gives what the whole gives

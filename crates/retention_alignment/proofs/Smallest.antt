@@ -12,9 +12,9 @@ use lib.Ieee.{Float, nan}
 use borrow.Author.Tests.{eqb-true, eqb-false}
 use Rattle.matrix.specs.Rows.{placeOf, rowAt, rowsOf}
 use Rattle.matrix.proofs.Laws.{place-below, place-inj, length-rowsOf, row-rowsOf, length-rowAt, getD-rowAt}
-use Rattle.rt_matrix.specs.Line.{tabulate}
+use Rattle.matrix.specs.Lists.{tabulate}
 use Rattle.rt_matrix.specs.Cells.{decode}
-use Rattle.rt_matrix.proofs.Lists.{length-tabulate, getD-tabulate}
+use Rattle.matrix.proofs.Lists.{length-tabulate, getD-tabulate}
 use Rattle.retention_alignment.specs.Observation.{Obs, times, smaller, minRt, minRts}
 
 -- what a cell holds, carried on over rows

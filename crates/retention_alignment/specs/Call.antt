@@ -1,15 +1,17 @@
 -- A call of `global_alignment`: its status, and what it leaves in every slice. Definitions only.
 use mathlib.Core.Path.{_≡_}
 use mathlib.Core.Bool.{Bool, true, _&&_, cond}
-use mathlib.Core.List.{List, [], _∷_, _++_, map}
+use mathlib.Core.List.{List, [], _∷_, map}
 use Prim.Native.Nat.{ℕ, _*_, _≤_}
 use lib.Dec.{eqb, leb}
 use lib.IntN.{ℤ}
-use lib.ListN.{length, drop, replicate}
-use lib.Ieee.{Float, binary64, ofBits}
+use lib.ListN.{length, replicate}
+use lib.Ieee.{Float}
+use Rattle.float.specs.Number.{zero64}
+use Rattle.matrix.specs.Lists.{overwritten}
 use Rattle.feature.specs.Feature.{mask, kept}
 use Rattle.feature.specs.Checks.{allBelow, lengthsAgree, withinLimits, maxFiles, maxPeptides, maxCells}
-use Rattle.feature.specs.Status.{accepted, badLengths, pastLimit, tooShort, badFile, badPeptide}
+use Rattle.feature.specs.Status.{accepted, badLengths, pastLimit, tooShort, badFile, badPeptide, firstFailing}
 use Rattle.rt_matrix.specs.Cells.{recordsOf}
 use Rattle.rt_matrix.specs.declared.Alignment.{Alignment}
 use Rattle.retention_alignment.specs.Observation.{Obs, observations, maxRts}
@@ -42,7 +44,7 @@ longEnough cells files rows workspace maxRt slope intercept aligned = leb cells 
 -- the number of the first check that fails
 unfoldable pub firstFailed : (lengths limits slices files peptides : Bool) → ℕ
 firstFailed lengths limits slices files peptides =
-    cond lengths (cond limits (cond slices (cond files (cond peptides accepted badPeptide) badFile) tooShort) pastLimit) badLengths
+    firstFailing ((badLengths, lengths) ∷ (pastLimit, limits) ∷ (tooShort, slices) ∷ (badFile, files) ∷ (badPeptide, peptides) ∷ [])
 
 -- The checks, each over the whole input before the next: from the columns of file and of peptide numbers, the lengths of the others, the
 -- numbers of files and of peptides, and the lengths of the slices that are written.
@@ -79,19 +81,15 @@ trainingRows i = kept (mask (i .label) (i .q)) (rows i)
 abbrev pub recordsFor : Input → List Alignment
 recordsFor i = alignments (i .files) (i .peptides) (maxRts (i .files) (rows i)) (trainingRows i)
 
--- new cells in the place of the first, and the rest as it was
-abbrev pub over : List Float → List Float → List Float
-over new old = new ++ drop (length new) old
-
 -- what an accepted call leaves
 unfoldable pub filled : Input → Slices → Slices
 filled i s =
     record {
-      workspace = over (replicate (i .peptides * i .files) (ofBits binary64 0)) (s .workspace);
-      maxRt = over (map (λ (a : Alignment). a .«max_rt») (recordsFor i)) (s .maxRt);
-      slope = over (map (λ (a : Alignment). a .slope) (recordsFor i)) (s .slope);
-      intercept = over (map (λ (a : Alignment). a .intercept) (recordsFor i)) (s .intercept);
-      aligned = over (map (aligned (recordsFor i)) (rows i)) (s .aligned);
+      workspace = overwritten (replicate (i .peptides * i .files) zero64) (s .workspace);
+      maxRt = overwritten (map (λ (a : Alignment). a .«max_rt») (recordsFor i)) (s .maxRt);
+      slope = overwritten (map (λ (a : Alignment). a .slope) (recordsFor i)) (s .slope);
+      intercept = overwritten (map (λ (a : Alignment). a .intercept) (recordsFor i)) (s .intercept);
+      aligned = overwritten (map (aligned (recordsFor i)) (rows i)) (s .aligned);
     }
 
 -- what a call leaves: a refused one every slice as it was
@@ -117,7 +115,7 @@ pub record Checked (i : Input) (s : Slices) : Type 0 where
 
 -- what that work leaves in such slices
 pub record Written (i : Input) (s : Slices) : Type 0 where
-  pub workspace : s .workspace ≡ replicate (i .peptides * i .files) (ofBits binary64 0)
+  pub workspace : s .workspace ≡ replicate (i .peptides * i .files) zero64
   pub records : recordsOf (s .maxRt) (s .slope) (s .intercept) ≡ recordsFor i
   pub aligned : s .aligned ≡ map (aligned (recordsFor i)) (rows i)
 

@@ -7,7 +7,7 @@ use lib.Dec.{eqb}
 use lib.Ieee.{Float}
 use Rattle.float.specs.Convert.{ceiling}
 use Rattle.float.specs.Value.{minimum}
-use Rattle.rt_matrix.specs.Line.{tabulate}
+use Rattle.matrix.specs.Lists.{tabulate}
 
 -- what the alignment reads of a row: the numbers of its file and of its peptide, and its time
 pub record Obs : Type 0 where

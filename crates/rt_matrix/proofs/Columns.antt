@@ -11,8 +11,9 @@ use lib.Ieee.{Float, binary64}
 use Rattle.float.specs.Value.{isNormal}
 use Rattle.matrix.proofs.Laws.{Wide}
 use Rattle.rt_matrix.specs.Line.{Point, mean, keptRows, pointOf, points}
-use Rattle.rt_matrix.specs.Cells.{zipped, atCell, afterRow}
-use Rattle.rt_matrix.proofs.Lists.{length-zipped, getD-zipped}
+use Rattle.matrix.specs.Lists.{zipped}
+use Rattle.rt_matrix.specs.Cells.{atCell, afterRow}
+use Rattle.matrix.proofs.Lists.{length-zipped, getD-zipped}
 
 module _ {A : Type 0} (step : A → Float → Float → A) (d : A) where
   -- a file's points, one after the other

@@ -8,12 +8,14 @@ use lib.ListN.{length, getD, replicate, length-replicate, getD-replicate}
 use lib.Seq.{ext-getD}
 use lib.Ieee.{Float, nan, binary64, add, mul, div}
 use Rattle.matrix.specs.Rows.{rowsOf}
-use Rattle.matrix.proofs.Laws.{Wide, wide-rowsOf}
-use Rattle.rt_matrix.specs.Line.{Point, share, keptRows, points, zero64, sx2Start, number, sumFrom, dot, sumX, sumY, squared, sx2, lineOf, line, lines, tabulate}
+use Rattle.matrix.proofs.Laws.{Wide, wide-map, wide-rowsOf}
+use Rattle.matrix.specs.Lists.{tabulate}
+use Rattle.float.specs.Number.{zero64, number, sumFrom}
+use Rattle.rt_matrix.specs.Line.{Point, share, keptRows, points, sx2Start, dot, sumX, sumY, squared, sx2, lineOf, line, lines}
 use Rattle.rt_matrix.specs.Cells.{decode, sharesOf, rowShares, afterRow, addPoint, sumsOf, Sized, Fresh, Spread, spread, addSquare, spreadsOf, xMeans, recordsFrom}
 use Rattle.rt_matrix.specs.declared.Alignment.{Alignment}
 use Rattle.rt_matrix.specs.declared.sums.Sums.{Sums}
-use Rattle.rt_matrix.proofs.Lists.{getD-same, getD-zipWith, length-tabulate, getD-tabulate}
+use Rattle.matrix.proofs.Lists.{getD-same, getD-zipWith, length-tabulate, getD-tabulate}
 use Rattle.rt_matrix.proofs.Row.{length-shares}
 use Rattle.rt_matrix.proofs.Columns.{over-points, by-columns, length-over}
 use Rattle.rt_matrix.proofs.SumColumns.{noSums, sums-at, length-sums}
@@ -91,17 +93,13 @@ means-at n ns ds xs ys z ms e f h =
     ∙ getD-zipWith (λ k x. div binary64 x (number k)) ns xs f 0 nan nan (omega arith) (omega arith)
     ∙ sym (ap (λ (s : Sums). div binary64 (s .«sum_x») (number (s .len))) (sums-at ns ds xs ys n z f h))
 
-wide-shares : (ms : List ℕ) (rows : List (List Float)) → Wide (length ms) rows → Wide (length ms) (map (sharesOf ms) rows)
-wide-shares ms [] w = tt
-wide-shares ms (row ∷ rows) w = (length-shares ms row (w .0), wide-shares ms rows (w .1))
-
 shares-map : (ms : List ℕ) (rows : List (List Float)) → map (sharesOf ms) rows ≡ map (zipWith share ms) (map (map decode) rows)
 shares-map ms [] = refl
 shares-map ms (row ∷ rows) = ap (λ (l : List (List (Option Float))). sharesOf ms row ∷ l) (shares-map ms rows)
 
 module _ (ms : List ℕ) (n : ℕ) (cells : List Float) (e : length cells ≡ n * length ms) where
   wide : Wide (length ms) (rowShares ms n cells)
-  wide = wide-shares ms (rowsOf (length ms) n cells) (wide-rowsOf (length ms) n cells (omega arith))
+  wide = wide-map (length ms) (length ms) (sharesOf ms) (length-shares ms) (rowsOf (length ms) n cells) (wide-rowsOf (length ms) n cells (omega arith))
 
   -- the points of the file f
   abbrev at : ℕ → List Point

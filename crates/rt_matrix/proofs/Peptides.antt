@@ -12,7 +12,8 @@ use lib.Ieee.{Float, binary64}
 use Rattle.float.specs.Value.{isNormal}
 use Rattle.matrix.specs.Rows.{rowsOf}
 use Rattle.rt_matrix.specs.Line.{mean}
-use Rattle.rt_matrix.specs.Cells.{sharesOf, rowShares, zipped, atCell, afterRow}
+use Rattle.matrix.specs.Lists.{zipped}
+use Rattle.rt_matrix.specs.Cells.{sharesOf, rowShares, atCell, afterRow}
 
 module _ {A : Type 0} (step : A → Float → Float → A) (states : List A) (row : List (Option Float)) (y : Float) (e : y ≡ mean row) where
   -- a kept peptide, and one that is dropped

@@ -1,5 +1,5 @@
 -- The files' records, which lie in three columns, as one list. Assumes nothing.
-use mathlib.Core.Path.{_≡_, refl, sym, ap, ap₂, _∙_}
+use mathlib.Core.Path.{_≡_, refl, ap, ap₂, _∙_}
 use mathlib.Core.List.{List, [], _∷_, map, zip, zipWith}
 use Prim.Native.Nat.{ℕ, _<_}
 use native.Mathlib.Omega.{arith}
@@ -9,7 +9,7 @@ use Rattle.rt_matrix.specs.Line.{lineOf}
 use Rattle.rt_matrix.specs.Cells.{recordsOf, recordsFrom}
 use Rattle.rt_matrix.specs.declared.Alignment.{Alignment}
 use Rattle.rt_matrix.specs.declared.sums.Sums.{Sums}
-use Rattle.rt_matrix.proofs.Lists.{length-zipWith, getD-zipWith, zipWith-set, length-zip, getD-zip, zip-set}
+use Rattle.matrix.proofs.Lists.{length-zipWith, getD-zipWith, zipWith-set, length-zip, getD-zip, zip-set}
 use Rattle.rt_matrix.proofs.SumColumns.{noSums}
 
 -- what stands past the end of a list of records
@@ -32,7 +32,7 @@ module _ (ms ss is : List Float) where
   pub length-records : (n : ℕ) → length ms ≡ n → length ss ≡ n → length is ≡ n → length (recordsOf ms ss is) ≡ n
   length-records n hm hs hi =
       let z : length (zip ms ss) ≡ n = length-zip ms ss (omega arith) ∙ hm in
-      length-zipWith row (zip ms ss) is (hi ∙ sym z) ∙ z
+      length-zipWith row (zip ms ss) is (omega (arith, z)) ∙ z
 
   pub records-at : (n : ℕ) → length ms ≡ n → length ss ≡ n → length is ≡ n → (f : ℕ) (d : Alignment) → f < n
       → getD (recordsOf ms ss is) f d ≡ record { «max_rt» = getD ms f nan; slope = getD ss f nan; intercept = getD is f nan }
@@ -55,10 +55,10 @@ columns-are (m ∷ ms) (s ∷ ss) (i ∷ is) hs hi =
 
 module _ (ms : List ℕ) (ss : List Sums) (qs : List Float) (hs : length ss ≡ length ms) (hq : length qs ≡ length ms) where
   both : length (zip ms ss) ≡ length ms
-  both = length-zip ms ss hs
+  both = length-zip ms ss (omega arith)
 
   pub length-from : length (recordsFrom ms ss qs) ≡ length ms
-  length-from = length-zipWith fitted (zip ms ss) qs (hq ∙ sym both) ∙ both
+  length-from = length-zipWith fitted (zip ms ss) qs (omega (arith, both)) ∙ both
 
   pub from-at : (f : ℕ) → f < length ms → getD (recordsFrom ms ss qs) f noRecord ≡ fitted (getD ms f 0, getD ss f noSums) (getD qs f nan)
   from-at f h =

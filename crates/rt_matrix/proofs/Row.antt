@@ -10,9 +10,10 @@ use lib.ListN.{length, getD, drop, drop-of-length-le, length-map, List·getD-map
 use lib.Seq.{drop-cons}
 use lib.Ieee.{Float, nan, binary64, div, eq, ne}
 use borrow.Author.Tests.{not-true, not-false}
-use Rattle.rt_matrix.specs.Line.{share, present, number}
+use Rattle.float.specs.Number.{number}
+use Rattle.rt_matrix.specs.Line.{share, present}
 use Rattle.rt_matrix.specs.Cells.{absent, decode, sharesOf}
-use Rattle.rt_matrix.proofs.Lists.{length-zipWith, getD-zipWith}
+use Rattle.matrix.proofs.Lists.{length-zipWith, getD-zipWith}
 
 -- ---- a cell by its test
 
@@ -61,7 +62,7 @@ left-none ms row f h = ap (λ (r : List Float). present (sharesOf (drop f ms) r)
 -- ---- the shares of a row
 
 pub length-shares : (ms : List ℕ) (row : List Float) → length row ≡ length ms → length (sharesOf ms row) ≡ length ms
-length-shares ms row e = length-zipWith share ms (map decode row) (length-map row decode ∙ e)
+length-shares ms row e = length-zipWith share ms (map decode row) (omega (arith, length-map row decode))
 
 pub shares-at : (ms : List ℕ) (row : List Float) (f : ℕ) → f < length ms → f < length row → getD (sharesOf ms row) f none ≡ share (getD ms f 0) (decode (getD row f nan))
 shares-at ms row f h l =

@@ -7,7 +7,8 @@ use lib.ListN.{length, getD, set}
 use lib.Seq.{set-getD}
 use lib.Ieee.{Float, nan}
 use Rattle.rt_matrix.specs.Cells.{Spread, spread, spreadsOf}
-use Rattle.rt_matrix.proofs.Lists.{upTo, upTo-at, upTo-step, length-zipWith, getD-zipWith, zipWith-set}
+use Rattle.matrix.proofs.Lists.{length-zipWith, getD-zipWith, zipWith-set}
+use Rattle.rt_matrix.proofs.Lists.{upTo, upTo-at, upTo-step}
 
 -- what stands past the end
 abbrev pub noSpread : Spread
@@ -20,7 +21,7 @@ module _ (ms ss : List Float) where
 
   module _ (n : ℕ) (hm : length ms ≡ n) (hs : length ss ≡ n) where
     pub length-spreads : length (spreadsOf ms ss) ≡ n
-    length-spreads = length-zipWith spread ms ss (hs ∙ sym hm) ∙ hm
+    length-spreads = length-zipWith spread ms ss (omega arith) ∙ hm
 
     pub spreads-at : (f : ℕ) → f < n → getD (spreadsOf ms ss) f noSpread ≡ spread (getD ms f nan) (getD ss f nan)
     spreads-at f h = getD-zipWith spread ms ss f nan nan noSpread (omega arith) (omega arith)

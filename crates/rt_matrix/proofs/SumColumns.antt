@@ -10,9 +10,11 @@ use lib.ListN.{length, getD, set, List·getD-eq-default}
 use lib.Ieee.{Float, nan, binary64}
 use Rattle.float.specs.Value.{isNormal}
 use Rattle.rt_matrix.specs.Line.{mean}
-use Rattle.rt_matrix.specs.Cells.{zipped, atCell, afterRow, addPoint, sumsOf, Sized}
+use Rattle.matrix.specs.Lists.{zipped}
+use Rattle.rt_matrix.specs.Cells.{atCell, afterRow, addPoint, sumsOf, Sized}
 use Rattle.rt_matrix.specs.declared.sums.Sums.{Sums}
-use Rattle.rt_matrix.proofs.Lists.{upTo, upTo-at, upTo-step, length-zipWith, getD-zipWith, zipWith-set, length-zip, getD-zip, zip-set}
+use Rattle.matrix.proofs.Lists.{length-zipWith, getD-zipWith, zipWith-set, length-zip, getD-zip, zip-set}
+use Rattle.rt_matrix.proofs.Lists.{upTo, upTo-at, upTo-step}
 
 -- what stands past the end of a list of sums
 abbrev pub noSums : Sums
@@ -54,7 +56,7 @@ module _ (ns : List ℕ) (ds xs ys : List Float) where
     right = length-zip xs ys (omega arith) ∙ z .sumX
 
     pub length-sums : length (sumsOf ns ds xs ys) ≡ n
-    length-sums = length-zipWith row (zip ns ds) (zip xs ys) (right ∙ sym left) ∙ left
+    length-sums = length-zipWith row (zip ns ds) (zip xs ys) (omega (arith, left, right)) ∙ left
 
     pub sums-at : (f : ℕ) → f < n → getD (sumsOf ns ds xs ys) f noSums ≡ record { len = getD ns f 0; dot = getD ds f nan; «sum_x» = getD xs f nan; «sum_y» = getD ys f nan }
     sums-at f h =

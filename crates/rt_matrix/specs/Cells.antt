@@ -2,13 +2,15 @@
 use Prim.Native.Nat.{ℕ, _+_}
 use mathlib.Core.Path.{_≡_}
 use mathlib.Core.Bool.{cond}
-use mathlib.Core.List.{List, [], _∷_, map, zip, zipWith}
+use mathlib.Core.List.{List, map, zip, zipWith}
 use mathlib.Core.Option.{Option, none, some}
 use lib.ListN.{length, replicate}
 use lib.Ieee.{Float, binary64, add, mul, sub, div, eq, ofBits}
 use Rattle.float.specs.Value.{isNormal}
 use Rattle.matrix.specs.Rows.{rowsOf}
-use Rattle.rt_matrix.specs.Line.{share, mean, squared, number, lineOf, zero64, sx2Start}
+use Rattle.float.specs.Number.{number, zero64}
+use Rattle.matrix.specs.Lists.{zipped}
+use Rattle.rt_matrix.specs.Line.{share, mean, squared, lineOf, sx2Start}
 use Rattle.rt_matrix.specs.declared.sums.Sums.{Sums}
 use Rattle.rt_matrix.specs.declared.Alignment.{Alignment}
 
@@ -27,12 +29,6 @@ sharesOf ms row = zipWith share ms (map decode row)
 -- the rows of a matrix of cells as shares of the files' longest times
 abbrev pub rowShares : List ℕ → ℕ → List Float → List (List (Option Float))
 rowShares ms n cells = map (sharesOf ms) (rowsOf (length ms) n cells)
-
--- the first list, each cell that has one beside it in the second made anew from the two
-unfoldable pub zipped : {A B : Type 0} → (A → B → A) → List A → List B → List A
-zipped g [] src = []
-zipped g (d ∷ dst) [] = d ∷ dst
-zipped g (d ∷ dst) (s ∷ src) = g d s ∷ zipped g dst src
 
 -- a file's state after a cell of a row with the mean y: where it holds a time x, one step by x and y
 unfoldable pub atCell : {A : Type 0} → (A → Float → Float → A) → Float → A → Option Float → A

@@ -1,37 +1,19 @@
 -- The line of each file through the peptides' times there and their means. Definitions only.
-use Prim.Native.Nat.{ℕ, zero, suc}
+use Prim.Native.Nat.{ℕ}
 use mathlib.Core.Bool.{cond}
-use mathlib.Core.List.{List, [], _∷_, _++_, map, foldl, zipWith}
+use mathlib.Core.List.{List, [], _∷_, _++_, map, zipWith}
 use mathlib.Core.Option.{Option, none, some}
 use lib.ListN.{length, getD}
-use lib.IntN.{pos}
-use lib.Ieee.{Float, binary64, add, sub, mul, div, ofInt, ofBits}
+use lib.Ieee.{Float, binary64, sub, mul, div}
 use Rattle.float.specs.Convert.{narrowed}
 use Rattle.float.specs.Value.{isFinite, isNormal}
+use Rattle.float.specs.Number.{zero64, one64, tiny64, number, sumFrom}
+use Rattle.matrix.specs.Lists.{tabulate}
 use Rattle.rt_matrix.specs.declared.Alignment.{Alignment}
 
--- g 0, g 1, .., g (n - 1)
-unfoldable pub tabulate : {A : Type 0} → ℕ → (ℕ → A) → List A
-tabulate zero g = []
-tabulate (suc n) g = g 0 ∷ tabulate n (λ k. g (suc k))
-
--- 0.0, 1.0 and 1E-8
-abbrev pub zero64 : Float
-zero64 = ofBits binary64 0
-
-abbrev pub one64 : Float
-one64 = ofBits binary64 0x3ff0_0000_0000_0000
-
+-- what the sums of squares start from: 1E-8
 abbrev pub sx2Start : Float
-sx2Start = ofBits binary64 0x3e45_798e_e230_8c3a
-
--- a number n as an f64
-abbrev pub number : ℕ → Float
-number n = ofInt binary64 (pos n)
-
--- a sum that starts at a and takes the terms in list order
-abbrev pub sumFrom : Float → List Float → Float
-sumFrom a xs = foldl (add binary64) a xs
+sx2Start = tiny64
 
 -- ---- a peptide's row
 

@@ -3,7 +3,8 @@ ghost use mathlib.Core.Path.{_≡_};
 ghost use Prim.Native.Nat.{_<_, _^_};
 ghost use lib.ListN.{length};
 ghost use lib.Ieee.{binary64, div};
-ghost use Rattle.rt_matrix.specs.Line.{number, mean};
+ghost use Rattle.float.specs.Number.{number};
+ghost use Rattle.rt_matrix.specs.Line.{mean};
 ghost use Rattle.rt_matrix.specs.Cells.{sharesOf};
 
 // The cell of a peptide that has no time in a file: 1E300, which no f32 equals.

@@ -5,7 +5,8 @@ ghost use Prim.Native.Nat.{_*_, _<_, _^_};
 ghost use lib.ListN.{length};
 ghost use lib.Ieee.{Float};
 ghost use Rattle.rt_matrix.specs.Line.{share};
-ghost use Rattle.rt_matrix.specs.Cells.{decode, sharesOf, rowShares, zipped, atCell, afterRow, spread, addSquare, spreadsOf, xMeans};
+ghost use Rattle.matrix.specs.Lists.{zipped};
+ghost use Rattle.rt_matrix.specs.Cells.{decode, sharesOf, rowShares, atCell, afterRow, spread, addSquare, spreadsOf, xMeans};
 use crate::mean;
 
 // The mean of each file's times.

@@ -4,7 +4,8 @@ ghost use mathlib.Core.List.{foldl};
 ghost use Prim.Native.Nat.{ℕ, _+_, _*_, _<_, _^_};
 ghost use lib.ListN.{length, getD};
 ghost use Rattle.rt_matrix.specs.Line.{share};
-ghost use Rattle.rt_matrix.specs.Cells.{decode, sharesOf, rowShares, zipped, atCell, afterRow, addPoint, sumsOf, Sized};
+ghost use Rattle.matrix.specs.Lists.{zipped};
+ghost use Rattle.rt_matrix.specs.Cells.{decode, sharesOf, rowShares, atCell, afterRow, addPoint, sumsOf, Sized};
 use crate::mean;
 
 // A file's points: how many, and the sums of x times y, of x and of y.

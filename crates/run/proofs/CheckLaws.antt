@@ -11,7 +11,7 @@ use borrow.Author.Tests.{le-leb, lt-leb}
 use lib.ListN.{length}
 use Rattle.feature.specs.Checks.{every, lengthsAgree, withinLimits, allBelow}
 use Rattle.peptide.specs.Table.{offsetsRight, lettersRight}
-use Rattle.model_fit.specs.Input.{firstFailing}
+use Rattle.feature.specs.Status.{firstFailing}
 use Rattle.run.specs.Call.{Input, peptides, columnsAgree, longEnough, statusBy}
 use Rattle.run.specs.declared.checks.Room.{Room}
 

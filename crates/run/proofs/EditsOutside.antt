@@ -20,7 +20,7 @@ use Rattle.embedding.specs.declared.Model.the-variants.{Retention, Mobility}
 use Rattle.rt_matrix.specs.Line.{present}
 use Rattle.rt_matrix.specs.declared.Alignment.{Alignment}
 use Rattle.regression.specs.Regression.{Fit}
-use Rattle.model_fit.specs.Shared.{overwritten}
+use Rattle.matrix.specs.Lists.{overwritten}
 use Rattle.models.specs.Prediction.{isSolved}
 use Rattle.run.specs.Fitted.{Fitted, Predicted, RowOutcome, longest, fitted, fitOfModel, outcome}
 use Rattle.run.specs.Call.{Input, Slices, RunCall, rows, status, fittedBy, answerOf, outcomes, predictedOf, predictionsOf, errorsOf, filled, slicesAfter}

@@ -12,7 +12,7 @@ use lib.Ieee.{Float}
 use lib.ListN.{length, take, drop, replicate, length-map, length-replicate, replicate-append-replicate, drop-of-length-le}
 use lib.Seq.{take-at, drop-at, length-take-le, drop-append-add, drop-drop}
 use borrow.Author.Tests.{eq-eqb, ne-eqb, le-leb}
-use Rattle.matrix.specs.Cells.{zero64}
+use Rattle.float.specs.Number.{zero64}
 use Rattle.feature.specs.Feature.{Row, training, mask, kept}
 use Rattle.feature.specs.Checks.{every}
 use Rattle.feature.specs.Status.{accepted}
@@ -28,7 +28,7 @@ use Rattle.embedding.specs.declared.Model.the-variants.{Retention, Mobility}
 use Rattle.regression.specs.Regression.{Sample, Fit, fitOf}
 use Rattle.model_fit.specs.Input.{Input as ModelInput, Query, inputOf, tableOf, queries, columnsAgree as modelColumns, workspaceCells}
 use Rattle.model_fit.specs.Samples.{fitOn, sampleOf}
-use Rattle.model_fit.specs.Shared.{overwritten}
+use Rattle.matrix.specs.Lists.{overwritten}
 use Rattle.models.specs.Prediction.{predictions, errors, errorOf, isSolved, predictionOf}
 use Rattle.models.specs.Call.{PredictCall, predictStatus}
 use Rattle.models.specs.declared.FitAnswer.{FitAnswer}

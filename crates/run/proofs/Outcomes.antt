@@ -12,8 +12,9 @@ use lib.ListN.{length, getD}
 use Rattle.matrix.proofs.Laws.{Wide}
 use Rattle.feature.specs.Feature.{Row}
 use Rattle.peptide.specs.Table.{Table}
-use Rattle.rt_matrix.specs.Line.{tabulate, present, lines}
-use Rattle.rt_matrix.proofs.Lists.{length-tabulate}
+use Rattle.matrix.specs.Lists.{tabulate}
+use Rattle.rt_matrix.specs.Line.{present, lines}
+use Rattle.matrix.proofs.Lists.{length-tabulate}
 use Rattle.retention_alignment.specs.Observation.{Obs, maxRts}
 use Rattle.retention_alignment.specs.Alignments.{alignments}
 use Rattle.embedding.specs.Design.{orderOf}
@@ -23,7 +24,7 @@ use Rattle.elimination.specs.Ridge.{Solution, solved, unsolved, firstSolved, ri
 use Rattle.regression.specs.Regression.{Sample, Fit, fitBy, fitOf, normal}
 use Rattle.regression.specs.declared.FitOutcome.{FitOutcome}
 use Rattle.regression.specs.declared.FitOutcome.the-variants.{Solved, NoTrainingRows, NotSolved}
-use Rattle.regression.proofs.Laws.{wide-normal, length-tabulate as tabulate-length}
+use Rattle.regression.proofs.Laws.{wide-normal}
 use Rattle.run.specs.Fitted.{Fitted, Predicted, RowOutcome, rowQuery, target, longest, recordsOf, fitted, fitOfModel, whereFitted, predictedBy, predicted, outcome}
 use Rattle.models.specs.Prediction.{isSolved}
 use Rattle.run.specs.Ends.{resultOf}
@@ -41,7 +42,7 @@ pub length-beta : (D : ℕ) (ss : List Sample) → isSolved (fitOf D ss .outcome
 unfolding fitOf normal
 length-beta D [] h = absurd (false≢true h)
 length-beta D (s ∷ ss) h =
-    let z : Sized D (D + 1) (normal D (s ∷ ss)) = (tabulate-length D _, wide-normal D (s ∷ ss)) in
+    let z : Sized D (D + 1) (normal D (s ∷ ss)) = (length-tabulate D _, wide-normal D (s ∷ ss)) in
     counted (firstSolved D (normal D (s ∷ ss)) ridges) (length-solution D 1 (normal D (s ∷ ss)) ridges z) h
   where
     counted : (r : Solution) → cellsIn r (D * 1) → isSolved (fitBy (s ∷ ss) r .outcome) ≡ true → length (fitBy (s ∷ ss) r .beta) ≡ D

@@ -6,7 +6,7 @@ use Prim.Native.Nat.{ℕ, _*_}
 use lib.Dec.{eqb}
 use lib.Ieee.{Float, binary64, ofBits}
 use lib.ListN.{length, replicate}
-use Rattle.matrix.specs.Cells.{zero64}
+use Rattle.float.specs.Number.{zero64}
 use Rattle.feature.specs.Feature.{Row, rowTrains, training, mask, kept}
 use Rattle.feature.specs.Status.{accepted}
 use Rattle.feature.proofs.Training.{Columns, Fields, fields-rowsFrom, mask-rowsFrom}
@@ -23,7 +23,7 @@ use Rattle.embedding.specs.declared.Model.the-variants.{Retention, Mobility}
 use Rattle.regression.specs.Regression.{Fit, fitOf}
 use Rattle.model_fit.specs.Input.{Input as ModelInput, Query, inputOf, tableOf, queries, workspaceCells}
 use Rattle.model_fit.specs.Samples.{fitOn, sampleOf}
-use Rattle.model_fit.specs.Shared.{overwritten}
+use Rattle.matrix.specs.Lists.{overwritten}
 use Rattle.models.specs.Prediction.{predictions, errors, errorOf, isSolved, predictionOf}
 use Rattle.models.specs.Call.{PredictCall, predictStatus, answerOf, workspaceAfter, outputAfter}
 use Rattle.models.specs.declared.FitAnswer.{FitAnswer}

@@ -19,7 +19,7 @@ use Rattle.regression.specs.Regression.{Sample, Fit, fitOf}
 use Rattle.model_fit.specs.Input.{Query, queryOf, queries, tableOf, inputOf}
 use Rattle.model_fit.specs.Input.{Input as ModelInput}
 use Rattle.model_fit.specs.Samples.{designOf, sampleOf, samples, trainingSamples, fitOn}
-use Rattle.model_fit.proofs.Laws.{zipWith-map}
+use Rattle.matrix.proofs.Lists.{zipWith-map, zipWith-none}
 use Rattle.model_fit.proofs.Rows.{queries-map, queries-bare}
 use Rattle.models.specs.Prediction.{predictionOf, errorOf, isSolved}
 use Rattle.rt_matrix.specs.Line.{present}
@@ -79,11 +79,6 @@ pub map-twice : {A B C : Type 0} (g : B → C) (f : A → B) (xs : List A) → m
 map-twice g f [] = refl
 map-twice g f (x ∷ xs) = ap (λ (t : List _). g (f x) ∷ t) (map-twice g f xs)
 
-zip-none : {A B C : Type 0} (f : A → B → C) (xs : List A) → zipWith f xs [] ≡ []
-unfolding zipWith
-zip-none f [] = refl
-zip-none f (x ∷ xs) = refl
-
 module _ (model : Model) (table : Table) (f : Fitted) (rs : List Row) where
   abbrev pub predictionsFor : List Float
   predictionsFor = cond (isSolved (fitOfModel model f .outcome)) (map (predictionOf model table (fitOfModel model f .beta)) (map (rowQuery model) rs)) []
@@ -116,5 +111,5 @@ module _ (model : Model) (table : Table) (f : Fitted) (rs : List Row) where
           ∙ sym (ap (map (λ (p : Predicted). p .error)) (results-solved table f model rs h) ∙ map-twice (λ (p : Predicted). p .error) (resultBy table f model) rs)
       by false h =
           ap (zipWith errorOf (map (target model (f .records)) rs)) (no-predictions h)
-          ∙ zip-none errorOf (map (target model (f .records)) rs)
+          ∙ zipWith-none errorOf (map (target model (f .records)) rs)
           ∙ sym (ap (map (λ (p : Predicted). p .error)) (results-unsolved table f model rs h))

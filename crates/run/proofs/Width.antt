@@ -9,9 +9,10 @@ use lib.Ieee.{Float, binary64, div, eq}
 use lib.ListN.{length, getD, set, take, drop, take-append-drop, length-append, length-drop, length-map, length-set}
 use lib.Seq.{length-take-le}
 use Rattle.matrix.specs.Rows.{flat, swapped}
-use Rattle.matrix.specs.Cells.{zero64}
-use Rattle.matrix.proofs.Laws.{Wide, wide-getD, wide-swapped, length-flat}
-use Rattle.elimination.specs.Rows.{rowOf, indexed, zipped}
+use Rattle.float.specs.Number.{zero64}
+use Rattle.matrix.proofs.Laws.{Wide, wide-getD, wide-map, wide-swapped, length-flat}
+use Rattle.matrix.proofs.Lists.{length-zipped}
+use Rattle.elimination.specs.Rows.{rowOf, indexed}
 use Rattle.elimination.specs.Elimination.{cell, lessScaled, dividedBy, ridged, fillZero, pivotRow, cleared, clearBelow, eliminated, echelonFrom, leading, divided, reduce, lessMultiple, clearAbove, backfillFrom, eliminate, leftSolved}
 use Rattle.elimination.specs.Ridge.{Solution, solved, unsolved, firstSolved, rightSide}
 use Rattle.elimination.proofs.Elimination.{pivot-within}
@@ -42,10 +43,6 @@ module _ (w : ℕ) where
   wide-drop (suc k) [] a = tt
   wide-drop (suc k) (r ∷ rows) a = wide-drop k rows (a .1)
 
-  wide-map : (f : List Float → List Float) → ((r : List Float) → length r ≡ w → length (f r) ≡ w) → (rows : List (List Float)) → Wide w rows → Wide w (map f rows)
-  wide-map f h [] a = tt
-  wide-map f h (r ∷ rows) a = (h r (a .0), wide-map f h rows (a .1))
-
   wide-indexed : (g : ℕ → List Float → List Float) → ((i : ℕ) (r : List Float) → length r ≡ w → length (g i r) ≡ w) → (rows : List (List Float)) → Wide w rows → Wide w (indexed g rows)
   unfolding indexed
   wide-indexed g h [] a = tt
@@ -55,12 +52,6 @@ length-indexed : {A : Type 0} (g : ℕ → A → A) (xs : List A) → length (in
 unfolding indexed
 length-indexed g [] = refl
 length-indexed g (x ∷ xs) = ap suc (length-indexed (λ i. g (suc i)) xs)
-
-length-zipped : (g : Float → Float → Float) (xs ys : List Float) → length (zipped g xs ys) ≡ length xs
-unfolding zipped
-length-zipped g [] ys = refl
-length-zipped g (x ∷ xs) [] = refl
-length-zipped g (x ∷ xs) (y ∷ ys) = ap suc (length-zipped g xs ys)
 
 -- ---- each step
 
@@ -73,7 +64,7 @@ module _ (n w : ℕ) (rows : List (List Float)) (s : Sized n w rows) where
   sized-below k f h l =
       let e = s .0 in (
         length-append (take k rows) (map f (drop k rows)) ∙ rw (length-take-le k rows (omega arith), length-map (drop k rows) f, length-drop) (omega arith),
-        wide-append w (take k rows) (map f (drop k rows)) (wide-take w k rows (s .1)) (wide-map w f h (drop k rows) (wide-drop w k rows (s .1))),
+        wide-append w (take k rows) (map f (drop k rows)) (wide-take w k rows (s .1)) (wide-map w w f h (drop k rows) (wide-drop w k rows (s .1))),
       )
 
   -- the rows before some
@@ -81,7 +72,7 @@ module _ (n w : ℕ) (rows : List (List Float)) (s : Sized n w rows) where
   sized-above k f h l =
       let e = s .0 in (
         length-append (map f (take k rows)) (drop k rows) ∙ rw (length-map (take k rows) f, length-take-le k rows (omega arith), length-drop) (omega arith),
-        wide-append w (map f (take k rows)) (drop k rows) (wide-map w f h (take k rows) (wide-take w k rows (s .1))) (wide-drop w k rows (s .1)),
+        wide-append w (map f (take k rows)) (drop k rows) (wide-map w w f h (take k rows) (wide-take w k rows (s .1))) (wide-drop w k rows (s .1)),
       )
 
   sized-swapped : (i j : ℕ) → i < n → j < n → Sized n w (swapped i j rows)
@@ -91,7 +82,7 @@ module _ (n w : ℕ) (rows : List (List Float)) (s : Sized n w rows) where
 
   sized-reduced : Sized n w (reduce n rows)
   unfolding divided
-  sized-reduced = (length-map rows (divided n) ∙ s .0, wide-map w (divided n) width rows (s .1))
+  sized-reduced = (length-map rows (divided n) ∙ s .0, wide-map w w (divided n) width rows (s .1))
     where
       width : (r : List Float) → length r ≡ w → length (divided n r) ≡ w
       width r e =
@@ -145,11 +136,10 @@ sized-eliminate n w eps rows s h =
 
 length-right : (n c : ℕ) (rows : List (List Float)) → Sized n (n + c) rows → length (rightSide n rows) ≡ n * c
 length-right n c rows s =
-    length-flat c (map (drop n) rows) (narrow rows (s .1)) ∙ ap (λ (m : ℕ). m * c) (length-map rows (drop n) ∙ s .0)
+    length-flat c (map (drop n) rows) (wide-map (n + c) c (drop n) narrow rows (s .1)) ∙ ap (λ (m : ℕ). m * c) (length-map rows (drop n) ∙ s .0)
   where
-    narrow : (rs : List (List Float)) → Wide (n + c) rs → Wide c (map (drop n) rs)
-    narrow [] a = tt
-    narrow (r ∷ rs) a = (length-drop n r ∙ rw (a .0) (omega arith), narrow rs (a .1))
+    narrow : (r : List Float) → length r ≡ n + c → length (drop n r) ≡ c
+    narrow r e = length-drop n r ∙ rw e (omega arith)
 
 -- the cells of a solution
 abbrev pub cellsIn : Solution → ℕ → Type 0

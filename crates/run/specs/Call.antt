@@ -8,10 +8,10 @@ use lib.Dec.{eqb, leb}
 use lib.IntN.{ℤ}
 use lib.Ieee.{Float}
 use lib.ListN.{length, replicate}
-use Rattle.matrix.specs.Cells.{zero64}
+use Rattle.float.specs.Number.{zero64}
 use Rattle.feature.specs.Feature.{Row, rowsFrom, training}
 use Rattle.feature.specs.Checks.{allBelow, lengthsAgree, withinLimits}
-use Rattle.feature.specs.Status.{accepted, badLengths, pastLimit, tooShort, badOffsets, badLetter, badFile, badPeptide}
+use Rattle.feature.specs.Status.{accepted, badLengths, pastLimit, tooShort, badOffsets, badLetter, badFile, badPeptide, firstFailing}
 use Rattle.peptide.specs.Table.{Table, offsetsRight, lettersRight}
 use Rattle.embedding.specs.Design.{orderOf}
 use Rattle.embedding.specs.declared.Model.{Model}
@@ -21,8 +21,8 @@ use Rattle.rt_matrix.specs.declared.Alignment.{Alignment}
 use Rattle.regression.specs.Regression.{Values, valuesOf, statusOf as outcomeStatus}
 use Rattle.regression.specs.declared.FitOutcome.{FitOutcome}
 use Rattle.regression.specs.declared.FitOutcome.the-variants.{NotSolved}
-use Rattle.model_fit.specs.Input.{firstFailing, workspaceCells}
-use Rattle.model_fit.specs.Shared.{overwritten}
+use Rattle.model_fit.specs.Input.{workspaceCells}
+use Rattle.matrix.specs.Lists.{overwritten}
 use Rattle.models.specs.declared.FitAnswer.{FitAnswer}
 use Rattle.models.specs.declared.FitAnswer.the-variants.{Fitted, Refused as NoFit}
 use Rattle.run.specs.Fitted.{Fitted as FittedNumbers, Predicted, RowOutcome, longest, fitted, outcome}

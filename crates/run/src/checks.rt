@@ -5,7 +5,8 @@ ghost use mathlib.Core.List.{[], _∷_};
 ghost use Prim.Native.Nat.{_*_};
 ghost use lib.Dec.{leb};
 ghost use Rattle.feature.specs.Checks.{lengthsAgree};
-ghost use Rattle.model_fit.specs.Input.{firstFailing, tableOf};
+ghost use Rattle.feature.specs.Status.{firstFailing};
+ghost use Rattle.model_fit.specs.Input.{tableOf};
 ghost use Rattle.run.specs.Call.{neededCells, longEnough, statusBy};
 
 // The lengths of the slices that a run writes.

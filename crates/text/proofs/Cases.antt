@@ -27,10 +27,6 @@ some-none o a h k = let z : _≡_ {A = ℕ} 0 1 = cc in absurd (omega arith)
 pub true-false : {P : Type 0} (t : Bool) → t ≡ true → t ≡ false → P
 true-false t h k = let z : _≡_ {A = ℕ} 0 1 = cc in absurd (omega arith)
 
-pub and-true : (t u : Bool) → (t && u) ≡ true → (t ≡ true) × (u ≡ true)
-and-true true u h = (refl, h)
-and-true false u h = true-false false h refl
-
 pub and-false : (t : Bool) → (t && false) ≡ false
 and-false true = refl
 and-false false = refl

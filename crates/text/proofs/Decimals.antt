@@ -10,7 +10,8 @@ use lib.Dec.{leb, ltb, eqb}
 use lib.ListN.{length, getD}
 use borrow.Author.Tests.{ltb-true, ltb-false, leb-true, leb-false, lt-ltb, le-ltb, le-leb, lt-leb, eqb-false, eq-eqb, ne-eqb}
 use Rattle.text.specs.Decimal.{decimalOnto, decimalOf, decimalZ, isDigit, readFrom, readDecimal}
-use Rattle.text.proofs.Cases.{by-bool, by-lt, by-eq, some-none, and-true, and-false}
+use Rattle.float.proofs.Order.{and-true}
+use Rattle.text.proofs.Cases.{by-bool, by-lt, by-eq, some-none, and-false}
 
 -- ---- a number's digits
 pub onto-short : (k n : ℕ) (s : List ℕ) → n < 10 → decimalOnto k n s ≡ (48 + n) ∷ s

@@ -12,7 +12,8 @@ use lib.Seq.{drop-append-seam, append-snoc, drop-drop}
 use borrow.Author.Tests.{eqb-true, eqb-false, eq-eqb, ne-eqb}
 use Rattle.text.specs.Reader.{Read, value, malformed, Reader, further, onward, _>>=_, give}
 use Rattle.text.specs.Line.{line, longerBy, lineOf, startsWith, keyed, lineRead, inLine, firstLine}
-use Rattle.text.proofs.Cases.{by-bool, by-lt, by-eq, by-option, some-none, and-true, and-false}
+use Rattle.float.proofs.Order.{and-true}
+use Rattle.text.proofs.Cases.{by-bool, by-lt, by-eq, by-option, some-none, and-false}
 
 -- ---- the first line
 longer-none : (c : ℕ) (o : Option (List ℕ)) → longerBy c o ≡ none → o ≡ none

@@ -10,7 +10,7 @@ use Rattle.feature.specs.Status.{accepted, noTraining, notSolved}
 use Rattle.gauss.specs.Solve.{answerOf as solved, checked, solutionOf}
 use Rattle.gauss.specs.declared.SolveAnswer.{SolveAnswer}
 use Rattle.gauss.specs.declared.SolveAnswer.the-variants.{Solved, Unsolved, Refused as NotSolved}
-use Rattle.matrix.specs.Cells.{zero64}
+use Rattle.float.specs.Number.{zero64}
 use Rattle.matrix.specs.declared.ColStep.{ColStep}
 use Rattle.matrix.specs.declared.ColStep.the-variants.{Value, Done}
 use Rattle.model_fit.specs.Input.{Input as FitInput}

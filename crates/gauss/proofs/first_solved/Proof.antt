@@ -10,11 +10,11 @@ use lib.ListN.{length, replicate}
 use lib.Ieee.{Float, binary64, ofBits, mul, le, round}
 use denote.Ref.{now}
 use Rattle.matrix.specs.Rows.{rowsOf}
-use Rattle.matrix.specs.Cells.{zero64}
+use Rattle.float.specs.Number.{zero64, one64}
 use Rattle.elimination.specs.Rows.{Shape, augmented}
-use Rattle.elimination.specs.Elimination.{one64, Tried, eliminate, leftSolved}
-use Rattle.elimination.specs.Ridge.{ten64, ridgesFrom, Solution, solved, unsolved, rightSide, firstSolved}
-use Rattle.gauss.specs.Solve.{solutionOf, answerOf, written, Searched}
+use Rattle.elimination.specs.Elimination.{Tried, eliminate, leftSolved}
+use Rattle.elimination.specs.Ridge.{ten64, ridgesFrom, Solution, solved, unsolved, rightSide, firstSolved, written}
+use Rattle.gauss.specs.Solve.{solutionOf, answerOf, Searched}
 use Rattle.gauss.specs.declared.SolveAnswer.{SolveAnswer}
 use Rattle.gauss.specs.declared.SolveAnswer.the-variants.{Solved, Unsolved}
 use Rattle.elimination.proofs.Ridges.{Within, within-first, within-next, fewer, solves-here, solves-later, none-solves}

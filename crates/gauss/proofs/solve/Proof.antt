@@ -77,7 +77,8 @@ returns-2 : tie.Need-returns-2
 returns-2 c =
     let s = c .before .before .before .before .before .before .before .before .before .before .before .before .before in
     let f = c .before .before .before .before .first-solved in
-    answered (now (s .args .left)) (now (s .args .right)) (s .args .n) (s .args .c) (now (s .args .workspace)) (now (s .args .solution)) (c .before .before .before .before .before .before .before .before .check .result) (c .before .before .before .before .before .before .before .before .check .ensures) (c .before .before .before .before .before .before .before .if1 .left) (within (c .before .before .before .before .before .before .before) .cellRoom) (f .result) (f .last .1 .1 .1 .1 .0) (f .last .1 .1 .1 .1 .1 .0) (f .ensures)
+    let p = within (c .before .before .before .before .before .before .before) in
+    answered (now (s .args .left)) (now (s .args .right)) (s .args .n) (s .args .c) (now (s .args .workspace)) (now (s .args .solution)) (c .before .before .before .before .before .before .before .before .check .result) (c .before .before .before .before .before .before .before .before .check .ensures) (c .before .before .before .before .before .before .before .if1 .left) (p .cellRoom) (p .solutionRoom) (f .result) (f .last .1 .1 .1 .1 .0) (f .last .1 .1 .1 .1 .1 .0) (f .kept .1 .1 .1 .1 .0) (f .kept .1 .1 .1 .1 .1 .0) (f .ensures)
 
 pub solve-spec : {M : Type 1} → statement M
 solve-spec =

@@ -6,7 +6,7 @@ use native.Mathlib.Omega.{arith}
 use native.Mathlib.Numerals.{add-one}
 use borrow.Author.Needs.{needs}
 use lib.ListN.{length, drop, replicate, length-set}
-use Rattle.matrix.specs.Cells.{zero64}
+use Rattle.float.specs.Number.{zero64}
 use Rattle.matrix.proofs.Laws.{fill-suc, fill-all}
 use Rattle.matrix.proofs.zeros.Statement.{statement}
 use Rattle.matrix.proofs.zeros.Tie as tie

@@ -11,7 +11,7 @@ use lib.Ieee.{Float, nan}
 use denote.Ref.{now}
 use Rattle.matrix.specs.Rows.{rowsOf}
 use Rattle.matrix.proofs.Laws.{put, length-put, row-end, is-flat, row-rowsOf, rowsOf-put-row, length-rowsOf}
-use Rattle.elimination.specs.Rows.{zipped}
+use Rattle.matrix.specs.Lists.{zipped}
 use Rattle.elimination.proofs.Made.{made, made-none, made-suc, made-zipped}
 use Rattle.regression.specs.Regression.{plusScaled}
 use borrow.Author.Needs.{needs}

@@ -10,7 +10,8 @@ use lib.ListN.{length, take, drop, length-take}
 use lib.Ieee.{Float, binary64, mul, le, ofBits, round}
 use denote.Ref.{now}
 use Rattle.matrix.specs.Rows.{rowsOf}
-use Rattle.elimination.specs.Elimination.{one64, tiny64, eliminate}
+use Rattle.float.specs.Number.{one64, tiny64}
+use Rattle.elimination.specs.Elimination.{eliminate}
 use Rattle.elimination.specs.Ridge.{ten64, ridges, ridgesFrom, firstSolved, solved, unsolved, rightSide}
 use Rattle.regression.specs.Solve.{systemLength, kept, Attempted, Found}
 use Rattle.regression.specs.declared.FirstRidge.the-variants.{Solves}

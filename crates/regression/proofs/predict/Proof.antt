@@ -9,7 +9,8 @@ use lib.ListN.{length, drop, drop-of-length-le}
 use lib.Seq.{drop-cons}
 use denote.Ref.{now}
 use lib.Ieee.{Float, nan, binary64, mul, ofBits}
-use Rattle.regression.specs.Regression.{sumFrom, dot}
+use Rattle.float.specs.Number.{sumFrom}
+use Rattle.regression.specs.Regression.{dot}
 use borrow.Author.Needs.{needs}
 use Rattle.regression.proofs.predict.Statement.{statement}
 use Rattle.regression.proofs.predict.Tie as tie
@@ -30,7 +31,6 @@ unfolding ofBits dot
 loop-holds c = (search needs, refl)
 
 returns : tie.Need-returns Inv-loop μ-loop
-unfolding sumFrom
 returns c =
     rw (drop-of-length-le (now (c .before .before .before .args .beta)) {i = c .before .before .loop .k} (c .if1 .taken), zipWith-nil) at (c .before .before .loop .inv .1)
 
@@ -53,7 +53,7 @@ loop-less : tie.Need-loop-less Inv-loop μ-loop
 loop-less c = search needs
 
 loop-again : tie.Need-loop-again Inv-loop μ-loop
-unfolding sumFrom zipWith
+unfolding zipWith
 loop-again c =
     let l = c .before .before .before .before in
     let a = l .before .args in
@@ -62,7 +62,7 @@ loop-again c =
     (omega arith, rw add-one (rw (drop-cons (now (a .row)) (l .loop .k) nan h, drop-cons (now (a .beta)) (l .loop .k) nan h′) at (l .loop .inv .1)))
 
 returns-2 : tie.Need-returns-2 Inv-loop μ-loop
-unfolding sumFrom zipWith
+unfolding zipWith
 returns-2 c = rw (drop-of-length-le (now (c .before .before .args .row)) {i = c .before .loop .k} (omega arith)) at (c .before .loop .inv .1)
 
 pub predict-spec : {M : Type 1} → statement M

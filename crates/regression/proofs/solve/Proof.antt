@@ -2,7 +2,7 @@
 use mathlib.Core.Path.{_∙_, ap}
 use Prim.Native.Nat.{ℕ}
 use lib.ListN.{replicate}
-use Rattle.matrix.specs.Cells.{zero64}
+use Rattle.float.specs.Number.{zero64}
 use borrow.Author.Needs.{needs}
 use Rattle.regression.proofs.solve.Statement.{statement}
 use Rattle.regression.proofs.solve.Tie as tie

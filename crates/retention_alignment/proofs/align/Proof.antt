@@ -7,13 +7,14 @@ use borrow.Author.Needs.{needs}
 use denote.Ref.{now}
 use lib.ListN.{length, take, drop, replicate, length-append, length-replicate}
 use lib.Seq.{length-take-le, take-at}
-use lib.Ieee.{Float, binary64, ofBits}
+use lib.Ieee.{Float}
+use Rattle.float.specs.Number.{zero64}
 use Rattle.feature.specs.Checks.{allBelow, maxFiles}
 use Rattle.matrix.specs.Rows.{rowsOf}
 use Rattle.rt_matrix.specs.Line.{lines}
 use Rattle.rt_matrix.specs.Cells.{decode}
 use Rattle.rt_matrix.specs.declared.Alignment.{Alignment}
-use Rattle.rt_matrix.proofs.Lists.{take-replicate, length-tabulate}
+use Rattle.matrix.proofs.Lists.{take-replicate, length-tabulate}
 use Rattle.retention_alignment.specs.Observation.{maxRt, maxRts}
 use Rattle.retention_alignment.specs.Alignments.{alignments, aligned}
 use Rattle.retention_alignment.specs.Call.{Input, rows, recordsFor}
@@ -150,7 +151,7 @@ returns c =
     ∙ ap (λ (n : ℕ). lines ms (map (map decode) (rowsOf n (i .peptides) cells))) (length-tabulate (i .files) (λ f. maxRt f (rows i)))
     ∙ ap (lines ms) (d .mean-rt-by-file .ensures) in
     record {
-      workspace = z .zeros .ensures ∙ ap (λ (n : ℕ). replicate n (ofBits binary64 0)) (cells-long d);
+      workspace = z .zeros .ensures ∙ ap (λ (n : ℕ). replicate n zero64) (cells-long d);
       records = found;
       aligned = w .align-rows .ensures (now (s .args .peptide)) (s .pre .peptide) ∙ ap (λ (l : List Alignment). map (aligned l) (rows i)) found;
     }

@@ -13,7 +13,8 @@ use lib.Ieee.{Float, nan}
 use Rattle.feature.proofs.Laws.{below-at}
 use Rattle.rt_matrix.specs.Cells.{recordsOf}
 use Rattle.rt_matrix.specs.declared.Alignment.{Alignment}
-use Rattle.rt_matrix.proofs.Lists.{upTo, upTo-step, upTo-all, over, zipped-over}
+use Rattle.matrix.proofs.Lists.{over, zipped-over}
+use Rattle.rt_matrix.proofs.Lists.{upTo, upTo-step, upTo-all}
 use Rattle.rt_matrix.proofs.RecordColumns.{records-at}
 use Rattle.retention_alignment.specs.Observation.{Obs, observations}
 use Rattle.retention_alignment.specs.Alignments.{aligned as alignedRow, alignedBy, noAlignment}

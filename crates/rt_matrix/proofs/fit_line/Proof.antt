@@ -2,9 +2,10 @@
 use mathlib.Core.Path.{_≡_, refl, sym, ap, ap₂, _∙_}
 use borrow.Author.Needs.{needs}
 use Prim.Native.Nat.{ℕ}
-use lib.Ieee.{Float, binary64, sub, mul, div}
+use lib.Ieee.{Float, binary64, sub, mul, div, ofBits}
 use Rattle.float.specs.Convert.{narrowed}
-use Rattle.rt_matrix.specs.Line.{number, one64, zero64, finiteOr, lineOf}
+use Rattle.float.specs.Number.{number, one64, zero64}
+use Rattle.rt_matrix.specs.Line.{finiteOr, lineOf}
 use Rattle.rt_matrix.specs.declared.Alignment.{Alignment}
 use Rattle.rt_matrix.proofs.fit_line.Statement.{statement}
 use Rattle.rt_matrix.proofs.fit_line.Tie as tie
@@ -43,7 +44,7 @@ fitted m n dot sumX sumY sx2 =
     rec (narrowed (number m)) (narrowed (finiteOr one64 slope)) (narrowed (finiteOr zero64 intercept))
 
 returns : tie.Need-returns
-unfolding lineOf
+unfolding lineOf ofBits
 returns c =
     let d = c .before .before .before .before .before in
     let a = d .before .before .before .before .before .args in

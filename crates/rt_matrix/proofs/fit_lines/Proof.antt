@@ -7,13 +7,19 @@ use borrow.Author.Needs.{needs}
 use denote.Ref.{now}
 use lib.ListN.{length, take, replicate, length-replicate}
 use lib.Seq.{length-take-le}
-use lib.Ieee.{Float}
+use lib.Ieee.{Float, binary64, ofBits, round}
 use Rattle.feature.specs.Checks.{maxFiles}
-use Rattle.rt_matrix.specs.Line.{zero64, sx2Start}
+use Rattle.float.specs.Number.{zero64}
+use Rattle.rt_matrix.specs.Line.{sx2Start}
 use Rattle.rt_matrix.specs.Cells.{Fresh}
-use Rattle.rt_matrix.proofs.Lists.{take-replicate}
+use Rattle.matrix.proofs.Lists.{take-replicate}
 use Rattle.rt_matrix.proofs.fit_lines.Statement.{statement}
 use Rattle.rt_matrix.proofs.fit_lines.Tie as tie
+
+-- 1E-8 of the code
+start : ofBits binary64 0x3e45_798e_e230_8c3a ≡ sx2Start
+unfolding ofBits round
+start = refl
 
 -- a part of an array that a repeat made
 part : {A : Type 0} (ms : List ℕ) (v : A) → length ms ≤ maxFiles → length ms ≡ length (take (length ms) (replicate maxFiles v))
@@ -53,7 +59,7 @@ array-borrow-prefix-sx2 : tie.Need-array-borrow-prefix-sx2
 array-borrow-prefix-sx2 c = search needs
 
 slice-aggregate-fit-columns-6 : tie.Need-slice-aggregate-fit-columns-6
-slice-aggregate-fit-columns-6 c = part (now (c .before .before .before .before .before .before .before .before .before .before .before .args .max)) sx2Start (c .before .before .before .before .before .before .before .before .before .before .before .pre .2)
+slice-aggregate-fit-columns-6 c = part (now (c .before .before .before .before .before .before .before .before .before .before .before .args .max)) _ (c .before .before .before .before .before .before .before .before .before .before .before .pre .2)
 
 fit-columns-requires : tie.Need-fit-columns-requires
 fit-columns-requires c κs =
@@ -66,7 +72,7 @@ fit-columns-requires c κs =
         sumX = take-replicate n maxFiles zero64 (g .2);
         sumY = take-replicate n maxFiles zero64 (g .2);
         means = sym (part (now (s .args .max)) zero64 (g .2));
-        squares = take-replicate n maxFiles sx2Start (g .2);
+        squares = take-replicate n maxFiles _ (g .2) ∙ ap (replicate n) start;
       },
       (g .0, g .1, omega arith, g .3, g .4, g .5),
     )

@@ -10,7 +10,8 @@ use lib.Ieee.{Float, nan}
 use Rattle.rt_matrix.specs.Line.{lineOf}
 use Rattle.rt_matrix.specs.Cells.{sumsOf, recordsOf, recordsFrom}
 use Rattle.rt_matrix.specs.declared.sums.Sums.{Sums}
-use Rattle.rt_matrix.proofs.Lists.{upTo, upTo-step, upTo-all, over, zipped-over}
+use Rattle.matrix.proofs.Lists.{over, zipped-over}
+use Rattle.rt_matrix.proofs.Lists.{upTo, upTo-step, upTo-all}
 use Rattle.rt_matrix.proofs.SumColumns.{length-sums, sums-at}
 use Rattle.rt_matrix.proofs.RecordColumns.{noRecord, records-set, length-records, length-from, from-at}
 use Rattle.rt_matrix.proofs.store_alignments.Statement.{statement}

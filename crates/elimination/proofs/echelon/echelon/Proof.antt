@@ -11,7 +11,7 @@ use lib.ListN.{length, getD}
 use lib.Ieee.{Float, nan, eq}
 use denote.Ref.{now}
 use Rattle.matrix.specs.Rows.{rowsOf, swapped}
-use Rattle.matrix.specs.Cells.{zero64}
+use Rattle.float.specs.Number.{zero64}
 use Rattle.matrix.proofs.Laws.{length-rowsOf, getD-rowsOf}
 use Rattle.elimination.specs.Rows.{rowOf}
 use Rattle.elimination.specs.Elimination.{cell, pivotRow, clearBelow, eliminated, echelonFrom, echelon}

@@ -11,8 +11,8 @@ use lib.Seq.{take-suc-set, drop-set-lt, append-snoc}
 use lib.Ieee.{Float, binary64, ofBits, div}
 use denote.Ref.{now}
 use borrow.Rule.Slice.PartMut.{putMid, same-len-mid}
-use Rattle.elimination.specs.Rows.{zipped}
-use Rattle.matrix.specs.Cells.{zero64}
+use Rattle.matrix.specs.Lists.{zipped}
+use Rattle.float.specs.Number.{zero64}
 use Rattle.elimination.specs.Elimination.{cell, lessScaled, cleared}
 use Rattle.elimination.proofs.Parts.{rest, put-rest}
 use borrow.Author.Needs.{needs}

@@ -10,7 +10,8 @@ use Rattle.mass.specs.Mass.{columnOf}
 use Rattle.embedding.specs.declared.Model.the-variants.{Mobility}
 use Rattle.embedding.specs.Count.{AllBelow}
 use Rattle.embedding.specs.Classes.{classSums, classCounts}
-use Rattle.embedding.specs.Design.{nTerminal, cTerminal, everywhere, counts, block, cell, share, mobilityScalars, mobilityRow}
+use Rattle.float.specs.Number.{number}
+use Rattle.embedding.specs.Design.{nTerminal, cTerminal, everywhere, counts, block, share, mobilityScalars, mobilityRow}
 use Rattle.embedding.proofs.Counting.{length-tally}
 use Rattle.embedding.proofs.Classes.{class-sums, class-counts-below, length-classCounts, classes-written}
 use Rattle.embedding.proofs.Positions.{chosen-le}
@@ -133,14 +134,14 @@ returns c =
     let n = length l in
     let e = c .before .before .before .before .before .before .before .before .before .before .before .before .before .before .before .before .before .before .before .before .before .before .before .before .before .before .before .before .before .tally .ensures in
     let d1 = next-block 0 22 22 [] (block everywhere l) old old _ (done-none old) (length-block everywhere l) (omega arith) (omega (arith, s .pre .1))
-    (written cell l _ _ _ (c .before .before .before .before .before .before .before .before .before .before .before .before .before .before .before .before .before .before .before .before .before .before .before .before .before .before .put-counts .ensures) e) in
+    (written number l _ _ _ (c .before .before .before .before .before .before .before .before .before .before .before .before .before .before .before .before .before .before .before .before .before .before .before .before .before .before .put-counts .ensures) e) in
     let d2 = next-block 22 22 22 _ (map (share n) (counts everywhere l)) old _ _ d1 (length-map (counts everywhere l) (share n) ∙ length-counts everywhere l) (omega arith) (omega (arith, s .pre .1))
     (written (share n) l _ _ _ (c .before .before .before .before .before .before .before .before .before .before .before .before .before .before .before .before .before .before .before .before .before .put-shares .ensures) e) in
     let d3 = next-block 44 22 22 _ (block nTerminal l) old _ _ d2 (length-block nTerminal l) (omega arith) (omega (arith, s .pre .1))
     (embedded l nTerminal _ _ _ (c .before .before .before .before .before .before .before .before .before .before .before .before .before .before .before .before .embed-part .ensures) (c .before .before .before .before .before .before .before .before .before .before .before .before .before .before .before .before .before .before .n-terminal .ensures)) in
     let d4 = next-block 66 22 22 _ (block (cTerminal Mobility) l) old _ _ d3 (length-block (cTerminal Mobility) l) (omega arith) (omega (arith, s .pre .1))
     (embedded l (cTerminal Mobility) _ _ _ (c .before .before .before .before .before .before .before .before .before .before .before .embed-part2 .ensures) (c .before .before .before .before .before .before .before .before .before .before .before .before .before .c-terminal .ensures)) in
-    let d5 = next-block 88 6 6 _ (map cell (classCounts l)) old _ _ d4 (length-map (classCounts l) cell ∙ length-classCounts l) (omega arith) (omega (arith, s .pre .1))
+    let d5 = next-block 88 6 6 _ (map number (classCounts l)) old _ _ d4 (length-map (classCounts l) number ∙ length-classCounts l) (omega arith) (omega (arith, s .pre .1))
     (classes-written l _ _ _ (c .before .before .before .before .before .before .put-classes .ensures) e) in
     next-block 94 6 6 _ (mobilityScalars n (s .args .mass) (s .args .charge)) old _ _ d5 refl (omega arith) (omega (arith, s .pre .1)) (c .before .before .put-scalars .ensures) .cells
 

@@ -8,7 +8,7 @@ use lib.ListN.{length-set}
 use borrow.Author.Needs.{needs}
 use denote.Ref.{now}
 use Rattle.embedding.specs.Classes.{classSums, branched, tiny, polar, bulky, positive, negative}
-use Rattle.embedding.specs.Design.{cell}
+use Rattle.float.specs.Number.{number}
 use Rattle.embedding.proofs.Counting.{all-below, allb}
 use Rattle.embedding.proofs.mobility_model.put_classes.Statement.{statement}
 use Rattle.embedding.proofs.mobility_model.put_classes.Tie as tie
@@ -99,14 +99,14 @@ unfolding classSums
 returns c =
     let s = c .before .before .before .before .before .before .before .before .before .before .before .before .before .before .before .before .before .before .before .before in
     rw (
-      c .before .before .before .before .before .before .before .before .before .before .before .before .before .before .before .u32-to-f64 .ensures ∙ ap cell (c .before .before .before .before .before .before .before .before .before .before .before .before .before .before .before .before .class-count .ensures),
-      c .before .before .before .before .before .before .before .before .before .before .before .before .u32-to-f642 .ensures ∙ ap cell (c .before .before .before .before .before .before .before .before .before .before .before .before .before .class-count2 .ensures),
-      c .before .before .before .before .before .before .before .before .before .u32-to-f643 .ensures ∙ ap cell (c .before .before .before .before .before .before .before .before .before .before .class-count3 .ensures),
-      c .before .before .before .before .before .before .u32-to-f644 .ensures ∙ ap cell (c .before .before .before .before .before .before .before .class-count4 .ensures),
-      c .before .before .before .u32-to-f645 .ensures ∙ ap cell (c .before .before .before .before .class-count5 .ensures),
-      c .u32-to-f646 .ensures ∙ ap cell (c .before .class-count6 .ensures),
+      c .before .before .before .before .before .before .before .before .before .before .before .before .before .before .before .u32-to-f64 .ensures ∙ ap number (c .before .before .before .before .before .before .before .before .before .before .before .before .before .before .before .before .class-count .ensures),
+      c .before .before .before .before .before .before .before .before .before .before .before .before .u32-to-f642 .ensures ∙ ap number (c .before .before .before .before .before .before .before .before .before .before .before .before .before .class-count2 .ensures),
+      c .before .before .before .before .before .before .before .before .before .u32-to-f643 .ensures ∙ ap number (c .before .before .before .before .before .before .before .before .before .before .class-count3 .ensures),
+      c .before .before .before .before .before .before .u32-to-f644 .ensures ∙ ap number (c .before .before .before .before .before .before .before .class-count4 .ensures),
+      c .before .before .before .u32-to-f645 .ensures ∙ ap number (c .before .before .before .before .class-count5 .ensures),
+      c .u32-to-f646 .ensures ∙ ap number (c .before .class-count6 .ensures),
     )
-    (sets-eq (map cell (classSums (now (s .args .counts)))) (now (s .args .row)) 0 (s .pre .1 .1))
+    (sets-eq (map number (classSums (now (s .args .counts)))) (now (s .args .row)) 0 (s .pre .1 .1))
 
 pub put-classes-spec : {M : Type 1} → statement M
 put-classes-spec =

@@ -5,7 +5,7 @@ use Prim.Native.Nat.{ℕ}
 use lib.ListN.{take, drop}
 use borrow.Author.Needs.{needs}
 use denote.Ref.{now}
-use Rattle.embedding.specs.Design.{cell}
+use Rattle.float.specs.Number.{number}
 use Rattle.embedding.proofs.Rows.{counters}
 use Rattle.embedding.proofs.residues.embed_part.Statement.{statement}
 use Rattle.embedding.proofs.residues.embed_part.Tie as tie
@@ -27,8 +27,8 @@ returns c =
     let s = c .before .before .before .before .before .before .before .before in
     let rest = drop 22 (now (s .args .row)) in
     c .before .before .put-counts .ensures
-    ∙ ap (λ (cs : List ℕ). map cell (take 22 cs) ++ rest) (c .before .before .before .before .before .tally .ensures)
-    ∙ ap (λ (cs : List ℕ). map cell cs ++ rest) (counters (now (s .args .part)))
+    ∙ ap (λ (cs : List ℕ). map number (take 22 cs) ++ rest) (c .before .before .before .before .before .tally .ensures)
+    ∙ ap (λ (cs : List ℕ). map number cs ++ rest) (counters (now (s .args .part)))
 
 pub embed-part-spec : {M : Type 1} → statement M
 embed-part-spec =

@@ -8,13 +8,13 @@ use native.Mathlib.Numerals.{add-one}
 use lib.ListN.{length, take, drop, length-set}
 use borrow.Author.Needs.{needs}
 use denote.Ref.{now}
-use Rattle.embedding.specs.Design.{cell}
+use Rattle.float.specs.Number.{number}
 use Rattle.embedding.proofs.Rows.{fill-more}
 use Rattle.embedding.proofs.residues.put_counts.Statement.{statement}
 use Rattle.embedding.proofs.residues.put_counts.Tie as tie
 
 abbrev Inv-loop : tie.InvT-loop
-Inv-loop counts row₀ k₀ row k = (k ≤ 22) × (row ≡ map cell (take k counts) ++ drop k row₀) × (lib.ListN.length row ≡ lib.ListN.length row₀)
+Inv-loop counts row₀ k₀ row k = (k ≤ 22) × (row ≡ map number (take k counts) ++ drop k row₀) × (lib.ListN.length row ≡ lib.ListN.length row₀)
 
 abbrev μ-loop : tie.MeasureT-loop
 μ-loop counts row₀ k₀ row k = 22 - k
@@ -49,7 +49,7 @@ loop-again c =
     let a = l .before .before .before in
     let h : l .loop .k < length (now (a .args .counts)) = omega arith in
     let r : l .loop .k < length (now (a .args .row)) = omega arith in
-    (omega arith, rw (l .loop .inv .1, c .u32-to-f64 .ensures, add-one) (fill-more cell _ _ _ 0 h r), simp length-set (l .loop .inv .2))
+    (omega arith, rw (l .loop .inv .1, c .u32-to-f64 .ensures, add-one) (fill-more number _ _ _ 0 h r), simp length-set (l .loop .inv .2))
 
 same-length : tie.Need-same-length Inv-loop μ-loop
 same-length c = search needs

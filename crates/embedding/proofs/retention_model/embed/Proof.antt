@@ -6,7 +6,8 @@ use lib.ListN.{length}
 use borrow.Author.Needs.{needs}
 use denote.Ref.{now}
 use Rattle.embedding.specs.declared.Model.the-variants.{Retention}
-use Rattle.embedding.specs.Design.{nTerminal, cTerminal, everywhere, block, cell, retentionRow}
+use Rattle.float.specs.Number.{number}
+use Rattle.embedding.specs.Design.{nTerminal, cTerminal, everywhere, block, retentionRow}
 use Rattle.embedding.proofs.Positions.{chosen-everywhere, chosen-le}
 use Rattle.embedding.proofs.Rows.{embedded, done-none, next-block, length-block}
 use Rattle.embedding.proofs.retention_model.embed.Statement.{statement}
@@ -88,7 +89,7 @@ returns c =
     (embedded l nTerminal _ _ _ (c .before .before .before .before .before .before .before .before .before .before .before .embed-part2 .ensures) (c .before .before .before .before .before .before .before .before .before .before .before .before .before .n-terminal .ensures)) in
     let d3 = next-block 44 22 22 _ (block (cTerminal Retention) l) old _ _ d2 (length-block (cTerminal Retention) l) (omega arith) (omega (arith, s .pre .1))
     (embedded l (cTerminal Retention) _ _ _ (c .before .before .before .before .before .before .embed-part3 .ensures) (c .before .before .before .before .before .before .before .before .c-terminal .ensures)) in
-    next-block 66 3 3 _ (cell (length l) ∷ s .args .log ∷ cell 1 ∷ []) old _ _ d3 refl (omega arith) (omega (arith, s .pre .1)) (c .before .before .put-scalars .ensures) .cells
+    next-block 66 3 3 _ (number (length l) ∷ s .args .log ∷ number 1 ∷ []) old _ _ d3 refl (omega arith) (omega (arith, s .pre .1)) (c .before .before .put-scalars .ensures) .cells
 
 pub embed-spec : {M : Type 1} → statement M
 embed-spec =

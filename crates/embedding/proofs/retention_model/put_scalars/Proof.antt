@@ -5,7 +5,7 @@ use lib.ListN.{length-set}
 use lib.Seq.{sets-eq}
 use borrow.Author.Needs.{needs}
 use denote.Ref.{now}
-use Rattle.embedding.specs.Design.{cell}
+use Rattle.float.specs.Number.{number}
 use Rattle.embedding.proofs.Rows.{one}
 use Rattle.embedding.proofs.retention_model.put_scalars.Statement.{statement}
 use Rattle.embedding.proofs.retention_model.put_scalars.Tie as tie
@@ -28,7 +28,7 @@ same-length c = search needs
 returns : tie.Need-returns
 returns c =
     let a = c .before .before .args in
-    rw (c .u32-to-f64 .ensures, one) (sets-eq (cell (a .length) ∷ a .log ∷ cell 1 ∷ []) (now (a .row)) 0 (c .before .before .pre))
+    rw (c .u32-to-f64 .ensures, one) (sets-eq (number (a .length) ∷ a .log ∷ number 1 ∷ []) (now (a .row)) 0 (c .before .before .pre))
 
 pub put-scalars-spec : {M : Type 1} → statement M
 put-scalars-spec =

@@ -8,7 +8,7 @@ use denote.Ref.{now}
 use lib.Ieee.{Float}
 use lib.ListN.{length, replicate}
 use borrow.Author.Needs.{needs}
-use Rattle.matrix.specs.Cells.{zero64}
+use Rattle.float.specs.Number.{zero64}
 use Rattle.matrix.specs.Rows.{flat}
 use Rattle.matrix.proofs.Laws.{put}
 use Rattle.embedding.specs.Design.{orderOf}

@@ -106,6 +106,9 @@ charge-at-requires c κs = search needs
 predict-peptide-requires : tie.Need-predict-peptide-requires Inv-loop μ-loop
 predict-peptide-requires c κs = let t = turn c in listed _ _ _ (start (t .before) .pre .numbered) (inside t)
 
+residual-of-requires : tie.Need-residual-of-requires Inv-loop μ-loop
+residual-of-requires c κs = search needs
+
 add-k-2 : tie.Need-add-k-2 Inv-loop μ-loop
 add-k-2 c = search needs
 
@@ -114,7 +117,8 @@ loop-less-2 c = search needs
 
 loop-again-2 : tie.Need-loop-again-2 Inv-loop μ-loop
 loop-again-2 c =
-    let d = c .before in
+    let d = c .before .before in
+    let x = c .before .predict-peptide in
     let t = turn d in
     let l = t .before .loop in
     let s = start (t .before) in
@@ -123,8 +127,9 @@ loop-again-2 c =
     let test = d .before .before .before .before in
     let trained : trains (getD (i .labels) (l .k) (pos 0)) (getD (i .qs) (l .k) nan) ≡ true = sym (test .before .trains-at .ensures) ∙ not-false _ (test .if1 .left) in (
       omega (arith, inside t),
-      one-more (s .args .model) i (now (s .args .beta)) (l .k) (d .charge-at .result) (c .predict-peptide .result) (y .result) (l .sse) (s .pre) (inside t) trained
-          (d .charge-at .ensures) (y .ensures) (c .predict-peptide .ensures) (l .inv .1),
+      rw (c .residual-of .ensures)
+          (one-more (s .args .model) i (now (s .args .beta)) (l .k) (d .charge-at .result) (x .result) (y .result) (l .sse) (s .pre) (inside t) trained
+          (d .charge-at .ensures) (y .ensures) (x .ensures) (l .inv .1)),
     )
 
 returns : tie.Need-returns Inv-loop μ-loop
@@ -150,6 +155,7 @@ sum-squares-spec =
     shared-slice-read-p
     charge-at-requires
     predict-peptide-requires
+    residual-of-requires
     add-k-2
     loop-less-2
     loop-again-2

@@ -7,7 +7,7 @@ use native.Mathlib.Omega.{arith}
 use denote.Ref.{now}
 use lib.Ieee.{Float, nan}
 use lib.ListN.{length, take, drop, length-set}
-use Rattle.model_fit.proofs.Laws.{length-zipWith, overwrite-all}
+use Rattle.matrix.proofs.Lists.{length-zipWith, overwrite-all}
 use Rattle.models.specs.Prediction.{errorOf}
 use Rattle.models.proofs.Writing.{write-next, error-at}
 use borrow.Author.Needs.{needs}

@@ -9,7 +9,7 @@ use lib.Ieee.{Float}
 use lib.ListN.{length, take, drop, length-set}
 use Rattle.peptide.specs.Table.{Table}
 use Rattle.model_fit.specs.Input.{tableOf, queryOf, queries}
-use Rattle.model_fit.proofs.Laws.{overwrite-all}
+use Rattle.matrix.proofs.Lists.{overwrite-all}
 use Rattle.model_fit.proofs.Status.{listed}
 use Rattle.models.specs.Prediction.{predictionOf}
 use Rattle.models.proofs.Writing.{write-next, length-predictions, prediction-at}

@@ -8,7 +8,7 @@ use borrow.Author.Needs.{needs}
 use denote.Ref.{now}
 use lib.ListN.{length, getD, set, length-set}
 use Rattle.feature.proofs.Laws.{below-at}
-use Rattle.rt_matrix.proofs.Lists.{getD-same}
+use Rattle.matrix.proofs.Lists.{getD-same}
 use Rattle.retention_alignment.specs.Observation.{Obs, maxRt, observations}
 use Rattle.retention_alignment.proofs.Rows.{rowsFrom, rowAt, rows-cons, rows-none}
 use Rattle.retention_alignment.proofs.Longest.{max-step, max-done}

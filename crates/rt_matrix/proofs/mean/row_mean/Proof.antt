@@ -11,7 +11,8 @@ use denote.Ref.{now}
 use lib.ListN.{length, getD, drop}
 use lib.Ieee.{Float, nan, binary64, add, div, ofInt}
 use lib.IntN.{pos}
-use Rattle.rt_matrix.specs.Line.{mean, present, sumFrom, zero64, number}
+use Rattle.float.specs.Number.{sumFrom, zero64, number}
+use Rattle.rt_matrix.specs.Line.{mean, present}
 use Rattle.rt_matrix.specs.Cells.{sharesOf}
 use Rattle.rt_matrix.proofs.Row.{left-present, left-absent, left-none, ne-true, ne-false}
 use Rattle.rt_matrix.proofs.mean.row_mean.Statement.{statement}

@@ -2,14 +2,16 @@
 -- Assumes nothing.
 use mathlib.Core.Path.{_≡_, refl, sym, ap, ap₂, _∙_}
 use Prim.Native.Nat.{ℕ, _+_, _-_, _≤_, _<_}
+use native.Mathlib.Nat.{le-of-eq}
 use native.Mathlib.Omega.{arith}
 use borrow.Author.Needs.{needs}
 use denote.Ref.{now}
 use lib.ListN.{length, getD, set, length-set}
 use lib.Ieee.{Float, nan, binary64, div}
-use Rattle.rt_matrix.specs.Line.{number}
+use Rattle.float.specs.Number.{number}
 use Rattle.rt_matrix.specs.Cells.{xMeans}
-use Rattle.rt_matrix.proofs.Lists.{upTo, upTo-step, upTo-all, over, zipped-over, length-zipWith, getD-zipWith}
+use Rattle.matrix.proofs.Lists.{over, zipped-over, length-zipWith, getD-zipWith}
+use Rattle.rt_matrix.proofs.Lists.{upTo, upTo-step, upTo-all}
 use Rattle.rt_matrix.proofs.squares.x_means.Statement.{statement}
 use Rattle.rt_matrix.proofs.squares.x_means.Tie as tie
 
@@ -65,7 +67,7 @@ loop-again c =
     ap (div binary64 (getD (now (a .sum-x)) f nan)) (c .u32-to-f64 .ensures) ∙ sym (getD-zipWith meanOf (now (a .len)) (now (a .sum-x)) f 0 nan nan (omega arith) (omega arith)) in (
       omega arith,
       simp length-set (inv .1),
-      upTo-step over f (now (a .x-mean)) (xMeans (now (a .len)) (now (a .sum-x))) (at .loop .x-mean) _ v nan nan (inv .2) refl is (omega (arith, length-zipWith meanOf (now (a .len)) (now (a .sum-x)) (s .pre .0))),
+      upTo-step over f (now (a .x-mean)) (xMeans (now (a .len)) (now (a .sum-x))) (at .loop .x-mean) _ v nan nan (inv .2) refl is (omega (arith, length-zipWith meanOf (now (a .len)) (now (a .sum-x)) (le-of-eq (sym (s .pre .0))))),
     )
 
 same-length : tie.Need-same-length Inv-loop μ-loop
@@ -76,7 +78,7 @@ returns c =
     let at = c .before in
     let s = at .before .before .before .before in
     let a = s .args in
-    at .loop .inv .2 ∙ upTo-all _ _ _ _ (omega arith) ∙ zipped-over _ _ (s .pre .1 ∙ sym (length-zipWith meanOf (now (a .len)) (now (a .sum-x)) (s .pre .0)))
+    at .loop .inv .2 ∙ upTo-all _ _ _ _ (omega arith) ∙ zipped-over _ _ (s .pre .1 ∙ sym (length-zipWith meanOf (now (a .len)) (now (a .sum-x)) (le-of-eq (sym (s .pre .0)))))
 
 pub x-means-spec : {M : Type 1} → statement M
 x-means-spec =
