@@ -55,9 +55,9 @@ fn solve(order: usize) -> Line {
 fn batch(rows: usize) -> Vec<Line> {
     let mut work = Work::new(rows);
     let runs = match rows {
-        0..=10_000 => 41,
-        10_001..=100_000 => 21,
-        _ => 5,
+        0..=10_000 => 401,
+        10_001..=100_000 => 201,
+        _ => 9,
     };
     let phases: [Phase; 5] = [
         ("align", Work::rust_align, Work::align),
