@@ -14,7 +14,7 @@ use Rattle.float.specs.Number.{zero64}
 use Rattle.float.proofs.Order.{and-true}
 use Rattle.matrix.proofs.Lists.{overwrite-front}
 use Rattle.elimination.specs.Ridge.{Solution, solved, unsolved, written}
-use Rattle.gauss.specs.Solve.{statusOf, outputs, needed, firstFailed, checked, solutionOf, answerOf, workspaceAfter, solutionAfter, statusFor, Solves, Accepted, Searched}
+use Rattle.gauss.specs.Solve.{statusOf, ridgeOf, outputs, needed, firstFailed, checked, solutionOf, answerOf, workspaceAfter, solutionAfter, statusFor, ridgeFor, Solves, Accepted, Searched}
 use Rattle.gauss.specs.declared.SolveAnswer.{SolveAnswer}
 use Rattle.gauss.specs.declared.SolveAnswer.the-variants.{Refused}
 
@@ -80,6 +80,11 @@ module _ (left right : List Float) (n c : ℕ) (workspace solution : List Float)
   status-is zero unsolved = refl
   status-is (suc q) s = refl
 
+  ridge-is : (q : ℕ) (s : Solution) → ridgeOf (answerOf q s) ≡ ridgeFor q s
+  ridge-is zero (solved eps cells) = refl
+  ridge-is zero unsolved = refl
+  ridge-is (suc q) s = refl
+
   -- a refused call
   pub refused : (q : ℕ) → q ≡ checked (length left) (length right) n c (length workspace) (length solution) → (q ≡ 0 → ⊥)
       → Solves left right n c workspace solution (Refused q) workspace solution
@@ -88,6 +93,7 @@ module _ (left right : List Float) (n c : ℕ) (workspace solution : List Float)
       record {
         answer = ap (λ (k : ℕ). answerOf k (solutionOf n c left right)) e;
         status = ap (λ (k : ℕ). statusFor k (solutionOf n c left right)) e;
+        ridge = ap (λ (k : ℕ). ridgeFor k (solutionOf n c left right)) e;
         workspace = ap (λ (k : ℕ). workspaceAfter k (needed n c) workspace) e;
         solution = ap (λ (k : ℕ). solutionAfter k (solutionOf n c left right) solution) e;
       }
@@ -110,6 +116,7 @@ module _ (left right : List Float) (n c : ℕ) (workspace solution : List Float)
       record {
         answer = s .answer ∙ ap (λ (j : ℕ). answerOf j sol) k;
         status = ap statusOf (s .answer) ∙ status-is 0 sol ∙ ap (λ (j : ℕ). statusFor j sol) k;
+        ridge = ap ridgeOf (s .answer) ∙ ridge-is 0 sol ∙ ap (λ (j : ℕ). ridgeFor j sol) k;
         workspace =
             overwrite-front (replicate (needed n c) zero64) cells workspace (needed n c) (s .cells ∙ ap (λ (j : ℕ). replicate j zero64) count) (lc ∙ count)
             ∙ ap (λ (j : ℕ). workspaceAfter j (needed n c) workspace) k;

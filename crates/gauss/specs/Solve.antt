@@ -75,11 +75,18 @@ statusFor zero (solved ridge cells) = 0
 statusFor zero unsolved = 9
 statusFor (suc k) s = suc k
 
+-- the ridge for each outcome, which only a solution has
+abbrev pub ridgeFor : ℕ → Solution → List Float
+ridgeFor zero (solved ridge cells) = ridge ∷ []
+ridgeFor zero unsolved = []
+ridgeFor (suc k) s = []
+
 -- ---- the contract of `solve`: what it was passed, what it answered, and the two slices after the call
 
 pub record Solves (left right : List Float) (n c : ℕ) (workspace₀ solution₀ : List Float) (r : SolveAnswer) (workspace₁ solution₁ : List Float) : Type 0 where
   pub answer : r ≡ answerOf (checked (length left) (length right) n c (length workspace₀) (length solution₀)) (solutionOf n c left right)
   pub status : statusOf r ≡ statusFor (checked (length left) (length right) n c (length workspace₀) (length solution₀)) (solutionOf n c left right)
+  pub ridge : ridgeOf r ≡ ridgeFor (checked (length left) (length right) n c (length workspace₀) (length solution₀)) (solutionOf n c left right)
   pub workspace : workspace₁
       ≡ workspaceAfter (checked (length left) (length right) n c (length workspace₀) (length solution₀)) (needed n c) workspace₀
   pub solution : solution₁
