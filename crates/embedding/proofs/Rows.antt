@@ -3,16 +3,19 @@
 use mathlib.Core.Path.{_≡_, refl, sym, ap, _∙_}
 use mathlib.Core.Bool.{Bool}
 use mathlib.Core.List.{List, [], _∷_, _++_, map, append-assoc}
-use Prim.Native.Nat.{ℕ, zero, suc, _+_, _-_, _≤_, _<_}
-use native.Mathlib.Nat.{le-of-suc-le-suc, not-suc-le-zero, sub-zero, suc-sub-suc}
+use Prim.Native.Nat.{ℕ, zero, suc, _+_, _-_, _^_, _≤_, _<_}
+use native.Mathlib.Nat.{le-of-suc-le-suc, le-trans, not-suc-le-zero, sub-zero, suc-sub-suc}
 use native.Mathlib.Omega.{arith}
-use lib.Ieee.{Float, binary64, ofBits, ofInt}
-use lib.ListN.{length, length-append, getD, set, take, drop, length-take, length-drop, take-append-drop}
-use lib.Seq.{take-nil, take-at, drop-at, drop-append-le, drop-drop}
+use lib.Dec.{lit≤}
+use lib.Ieee.{Float, binary64, add, ofBits, ofInt}
+use lib.ListN.{length, length-append, getD, set, take, drop, replicate, length-take, length-drop, take-append-drop}
+use lib.Seq.{length-take-le, take-nil, take-at, drop-at, drop-append-le, drop-drop}
 use Rattle.mass.specs.Mass.{columnOf}
-use Rattle.embedding.specs.Count.{range, tallied}
-use Rattle.float.specs.Number.{number}
+use Rattle.embedding.specs.Count.{howMany, range, tallied}
+use Rattle.float.specs.Number.{number, zero64}
+use Rattle.float.proofs.Whole.{number-add}
 use Rattle.embedding.specs.Design.{everywhere, chosen, columnCounts, counts, block}
+use Rattle.embedding.proofs.Counting.{counter-le, length-tally, tally-next}
 use Rattle.embedding.proofs.Positions.{chosen-everywhere}
 
 -- one cell more is made from an element
@@ -71,6 +74,34 @@ one = refl
 pub thousand : ofBits binary64 4652007308841189376 ≡ number 1000
 unfolding ofBits ofInt
 thousand = refl
+
+-- ---- cells that count
+
+-- a cell of whole numbers gains 1.0
+pub cell-more : (cs : List ℕ) (rest : List Float) (k : ℕ) (d : Float) → k < length cs → getD cs k 0 ≤ 2 ^ 53
+    → set (map number cs ++ rest) k (add binary64 (getD (map number cs ++ rest) k d) (number 1)) ≡ map number (set cs k (getD cs k 0 + 1)) ++ rest
+cell-more [] rest k d h b = absurd (not-suc-le-zero h)
+cell-more (c ∷ cs) rest zero d h b = ap {B = List Float} (λ x. x ∷ (map number cs ++ rest)) (number-add c 1 b (lit≤ tt))
+cell-more (c ∷ cs) rest (suc k) d h b = ap {B = List Float} (λ t. number c ∷ t) (cell-more cs rest k d (le-of-suc-le-suc h) b)
+
+-- A loop that counts in a row's first m cells: they hold the tally of the first i elements' numbers.
+module _ (m : ℕ) (f : ℕ → ℕ) (xs : List ℕ) (row rest : List Float) (i : ℕ) (is : row ≡ map number (tallied (range 0 m) (map f (take i xs))) ++ rest) where
+  pub cells-next : (k : ℕ) (d : Float) → i < length xs → length xs < 2 ^ 32 → k ≡ f (getD xs i 0) → k < m
+      → set row k (add binary64 (getD row k d) (number 1)) ≡ map number (tallied (range 0 m) (map f (take (i + 1) xs))) ++ rest
+  cells-next k d h b e l =
+      let cs = tallied (range 0 m) (map f (take i xs)) in
+      ap (λ (r : List Float). set r k (add binary64 (getD r k d) (number 1))) is
+      ∙ cell-more cs rest k d (rw (length-tally m (map f (take i xs))) l) (le-trans (counter-le m f xs cs i refl k (omega arith) l) (omega arith))
+      ∙ ap (λ (t : List ℕ). map number t ++ rest) (tally-next m f xs cs i refl k h e l)
+
+-- 22 cells that were cleared hold the counts of no letter; the others are as they were
+pub cleared : (old back : List Float) → 22 ≤ length old → back ≡ replicate (length (take 22 old)) zero64
+    → (back ++ drop 22 old ≡ map number (tallied (range 0 22) []) ++ drop 22 (back ++ drop 22 old)) × (drop 22 (back ++ drop 22 old) ≡ drop 22 old)
+unfolding tallied range howMany ofBits ofInt
+cleared old back h e =
+    let z : back ≡ replicate 22 zero64 = e ∙ ap (λ (n : ℕ). replicate n zero64) {x = length (take 22 old)} {y = 22} (length-take-le 22 old h) in
+    let r : drop 22 (back ++ drop 22 old) ≡ drop 22 old = ap (λ (b : List Float). drop 22 (b ++ drop 22 old)) z in
+    (ap (λ (b : List Float). b ++ drop 22 old) z ∙ ap (λ (t : List Float). replicate 22 zero64 ++ t) (sym r), r)
 
 -- ---- the counts of the 22 columns
 

@@ -54,8 +54,13 @@ pub(crate) fn embed_part(part: &[u8], row: &mut [f64])
     requires { ⌜ 22 ≤ length (now row) ⌝ }
     ensures { λ _. ⌜ now (row .exit) ≡ map number (columnCounts (now (part .entry))) ++ drop 22 (now (row .entry)) ⌝ }
 {
-    let counts = tally(part);
-    put_counts(&counts, row);
+    matrix::zeros(&mut row[0..22]);
+    let mut i = 0;
+    while i < part.len() {
+        let k = mass::column(part[i]);
+        row[k] = row[k] + 1.0;
+        i += 1;
+    }
 }
 
 // The residues at positions 0 and 1.

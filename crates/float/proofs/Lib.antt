@@ -4,3 +4,4 @@ pub mod Laws
 pub mod Nan
 pub mod Order
 pub mod Round
+pub mod Whole

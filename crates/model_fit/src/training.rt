@@ -1,7 +1,7 @@
 // The fit: one pass over the training rows for the normal equations, the solver, and one pass for the squared errors.
 ghost use mathlib.Core.Path.{_≡_};
 ghost use mathlib.Core.List.{List, [], _∷_, _++_};
-ghost use Prim.Native.Nat.{_<_};
+ghost use Prim.Native.Nat.{_<_, _≤_};
 ghost use lib.IntN.{pos};
 ghost use lib.Ieee.{nan, binary64, sub};
 ghost use lib.ListN.{length, getD, replicate};
@@ -31,7 +31,8 @@ fn trains_at(label: &[i32], q: &[f32], i: usize) -> bool
     feature::trains(label[i], q[i])
 }
 
-// Adds a row's sample to the normal equations: what holds those of some samples then holds those of one more.
+// Adds a row's sample to the normal equations: what holds those of some samples then holds those of one more. `row` is room for the design row and
+// the target.
 fn add_sample(
     model: Model,
     peptide: PeptideIx,
@@ -41,24 +42,16 @@ fn add_sample(
     masses: &[f32],
     logs: &[f64],
     y: f64,
+    row: &mut [f64],
     equations: &mut [f64],
 )
     requires { ⌜ Listed (tableOf (now letters) (now offsets) (now masses) (now logs)) (peptide .0) ⌝ }
+    requires { ⌜ orderOf model < length (now row) ⌝ }
     requires { ⌜ length (now equations) ≡ systemLength (orderOf model) ⌝ }
     ensures { λ _. ⌜ ((ss : List Sample) → now (equations .entry) ≡ flat (normal (orderOf model) ss) → now (equations .exit) ≡ flat (normal (orderOf model) (ss ++ sampleOf model (tableOf (now (letters .entry)) (now (offsets .entry)) (now (masses .entry)) (now (logs .entry))) (queryOf (peptide .0) charge) y ∷ []))) ⌝ }
 {
     let d = embedding::order(model);
-    let mut row = [0.0f64; 101];
-    embed_peptide(
-        model,
-        peptide,
-        charge,
-        letters,
-        offsets,
-        masses,
-        logs,
-        &mut row,
-    );
+    embed_peptide(model, peptide, charge, letters, offsets, masses, logs, row);
     row[d] = y;
     regression::add_row(equations, &row[..d + 1]);
 }
@@ -81,6 +74,7 @@ fn accumulate(
     requires { ⌜ now equations ≡ replicate (systemLength (orderOf model)) zero64 ⌝ }
     ensures { λ r. ⌜ Accumulated model (inputOf (now (peptide .entry)) (now (label .entry)) (now (q .entry)) (now (charge .entry)) (now (observed .entry)) (now (letters .entry)) (now (offsets .entry)) (now (masses .entry)) (now (logs .entry))) (now (equations .exit)) r ⌝ }
 {
+    let mut row = [0.0f64; 101];
     let mut sums = Sums::zero();
     for i in 0..peptide.len() {
         if !trains_at(label, q, i) {
@@ -90,13 +84,25 @@ fn accumulate(
         let p = peptide[i];
         let ix = PeptideIx(p);
         let z = charge_at(charge, i);
-        add_sample(model, ix, z, letters, offsets, masses, logs, y, equations);
+        add_sample(
+            model,
+            ix,
+            z,
+            letters,
+            offsets,
+            masses,
+            logs,
+            y,
+            &mut row,
+            equations,
+        );
         sums = sums.add(y);
     }
     sums
 }
 
-// The prediction for a peptide of the table, before it is clamped. For this crate and the models, which have checked the table.
+// The prediction for a peptide of the table, before it is clamped. `row` is room for the design row. For this crate and the models, which have
+// checked the table.
 pub fn predict_peptide(
     model: Model,
     peptide: PeptideIx,
@@ -106,22 +112,14 @@ pub fn predict_peptide(
     masses: &[f32],
     logs: &[f64],
     beta: &[f64],
+    row: &mut [f64],
 ) -> f64
     requires { ⌜ Listed (tableOf (now letters) (now offsets) (now masses) (now logs)) (peptide .0) ⌝ }
+    requires { ⌜ orderOf model ≤ length (now row) ⌝ }
     ensures { λ r. ⌜ r ≡ dot (designOf model (tableOf (now (letters .entry)) (now (offsets .entry)) (now (masses .entry)) (now (logs .entry))) (queryOf (peptide .0) charge)) (now (beta .entry)) ⌝ }
 {
     let d = embedding::order(model);
-    let mut row = [0.0f64; 100];
-    embed_peptide(
-        model,
-        peptide,
-        charge,
-        letters,
-        offsets,
-        masses,
-        logs,
-        &mut row,
-    );
+    embed_peptide(model, peptide, charge, letters, offsets, masses, logs, row);
     regression::predict(&row[..d], beta)
 }
 
@@ -149,6 +147,7 @@ fn sum_squares(
     requires { ⌜ Checked (inputOf (now peptide) (now label) (now q) (now charge) (now observed) (now letters) (now offsets) (now masses) (now logs)) ⌝ }
     ensures { λ r. ⌜ r ≡ sse (now (beta .entry)) (trainingSamples model (inputOf (now (peptide .entry)) (now (label .entry)) (now (q .entry)) (now (charge .entry)) (now (observed .entry)) (now (letters .entry)) (now (offsets .entry)) (now (masses .entry)) (now (logs .entry)))) ⌝ }
 {
+    let mut row = [0.0f64; 100];
     let mut sse = 0.0;
     for k in 0..peptide.len() {
         if !trains_at(label, q, k) {
@@ -158,7 +157,7 @@ fn sum_squares(
         let p = peptide[k];
         let ix = PeptideIx(p);
         let z = charge_at(charge, k);
-        let x = predict_peptide(model, ix, z, letters, offsets, masses, logs, beta);
+        let x = predict_peptide(model, ix, z, letters, offsets, masses, logs, beta, &mut row);
         let residual = residual_of(x, y);
         sse = sse + residual * residual;
     }

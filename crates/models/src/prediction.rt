@@ -47,10 +47,11 @@ pub(crate) fn write_predictions(
     ensures { λ _. ⌜ now (predicted .exit) ≡ overwritten (map (predictionOf model (tableOf (now (letters .entry)) (now (offsets .entry)) (now (masses .entry)) (now (logs .entry))) (now (beta .entry))) (queries (now (peptide .entry)) (now (charge .entry)))) (now (predicted .entry)) ⌝ }
 {
     let hi = largest(model);
+    let mut row = [0.0f64; 100];
     for i in 0..peptide.len() {
         let ix = PeptideIx(peptide[i]);
         let z = charge_at(charge, i);
-        let x = predict_peptide(model, ix, z, letters, offsets, masses, logs, beta);
+        let x = predict_peptide(model, ix, z, letters, offsets, masses, logs, beta, &mut row);
         predicted[i] = float::narrow(float::clamp64(x, 0.0, hi));
     }
 }

@@ -22,21 +22,22 @@ use Rattle.regression.proofs.Laws.{normal-nil, sums-nil, sums-snoc}
 use Rattle.model_fit.specs.Input.{Input, inputOf, queryOf}
 use Rattle.model_fit.specs.Samples.{sampleOf}
 use Rattle.model_fit.specs.Shared.{Checked}
-use Rattle.model_fit.proofs.Rows.{seen, sampleAt, seen-trains, seen-outside, seen-all, seen-few}
+use Rattle.model_fit.proofs.Rows.{order-max, seen, sampleAt, seen-trains, seen-outside, seen-all, seen-few}
 use Rattle.model_fit.proofs.Status.{listed}
 use Rattle.model_fit.proofs.training.accumulate.Statement.{statement}
 use Rattle.model_fit.proofs.training.accumulate.Tie as tie
 
 abbrev Inv-loop : tie.InvT-loop
-Inv-loop model peptide label q charge observed letters offsets masses logs equations₀ sums₀ i₀ i-end equations sums i =
+Inv-loop model peptide label q charge observed letters offsets masses logs equations₀ row₀ sums₀ i₀ i-end equations row sums i =
     let input : Input = inputOf peptide label q charge observed letters offsets masses logs in
     (i ≤ length peptide)
     × (equations ≡ flat (normal (orderOf model) (seen model input i)))
     × (sums ≡ sumsOf (seen model input i))
     × (length equations ≡ length equations₀)
+    × (length row ≡ 101)
 
 abbrev μ-loop : tie.MeasureT-loop
-μ-loop model peptide label q charge observed letters offsets masses logs equations₀ sums₀ i₀ i-end equations sums i = length peptide - i
+μ-loop model peptide label q charge observed letters offsets masses logs equations₀ row₀ sums₀ i₀ i-end equations row sums i = length peptide - i
 
 -- where the function begins, and what it was passed
 abbrev start : tie.At-loop Inv-loop μ-loop → tie.Start Inv-loop μ-loop
@@ -49,7 +50,7 @@ passed s =
 
 -- the start of a turn at a training row
 abbrev turn : tie.After-add-sample-arg Inv-loop μ-loop → tie.In-loop Inv-loop μ-loop
-turn d = d .before .before .before .before .before .before .before
+turn d = d .before .before .before .before .before .before .before .before
 
 -- a turn's row is one of the rows
 inside : (t : tie.In-loop Inv-loop μ-loop) → t .before .loop .i < length (now (start (t .before) .args .peptide))
@@ -79,7 +80,7 @@ loop-holds : tie.Need-loop-holds Inv-loop μ-loop
 unfolding kept
 loop-holds c =
     let s = c .before .before .before .before .before .before .before .before .before .before in
-    (search needs, s .pre .1 ∙ sym (normal-nil _), c .zero .ensures ∙ sym sums-nil, refl)
+    (search needs, s .pre .1 ∙ sym (normal-nil _), c .zero .ensures ∙ sym sums-nil, refl, refl)
 
 trains-at-requires : tie.Need-trains-at-requires Inv-loop μ-loop
 trains-at-requires c κs = let s = start (c .before) in (omega (arith, s .pre .0 .labels-long), omega (arith, s .pre .0 .qs-long))
@@ -99,7 +100,7 @@ loop-again c =
     let k = at .loop .i in
     let t : trains (getD (i .labels) k (pos 0)) (getD (i .qs) k nan) ≡ false = sym (c .before .trains-at .ensures) ∙ not-true _ (c .if1 .taken) in
     let n : seen model i (k + 1) ≡ seen model i k = rw (add-one k) (seen-outside model i (s .pre .0) k (inside (c .before .before)) t) in
-    (omega arith, at .loop .inv .1 ∙ ap (λ (x : List Sample). flat (normal (orderOf model) x)) (sym n), at .loop .inv .2 ∙ ap sumsOf (sym n), at .loop .inv .3)
+    (omega arith, at .loop .inv .1 ∙ ap (λ (x : List Sample). flat (normal (orderOf model) x)) (sym n), at .loop .inv .2 ∙ ap sumsOf (sym n), at .loop .inv .3, at .loop .inv .4)
 
 mul-widen : tie.Need-mul-widen Inv-loop μ-loop
 mul-widen c = omega (arith, start (c .before .before .before) .pre .0 .observed-long)
@@ -119,15 +120,18 @@ shared-slice-read-p c = search needs
 charge-at-requires : tie.Need-charge-at-requires Inv-loop μ-loop
 charge-at-requires c κs = search needs
 
+slice-aggregate-add-sample : tie.Need-slice-aggregate-add-sample Inv-loop μ-loop
+slice-aggregate-add-sample c = sym (c .before .before .before .before .before .before .before .before .loop .inv .4)
+
 add-sample-requires : tie.Need-add-sample-requires Inv-loop μ-loop
 add-sample-requires c κs =
     let t = turn c in
     let s = start (t .before) in
-    (listed _ _ _ (s .pre .0 .numbered) (inside t), t .before .loop .inv .3 ∙ ap length (s .pre .1) ∙ length-replicate _ _)
+    (listed _ _ _ (s .pre .0 .numbered) (inside t), (omega (arith, order-max (s .args .model), t .before .loop .inv .4), t .before .loop .inv .3 ∙ ap length (s .pre .1) ∙ length-replicate _ _))
 
 add-requires : tie.Need-add-requires Inv-loop μ-loop
 add-requires c κs =
-    let t = turn (c .before .before .before) in
+    let t = turn (c .before .before .before .before) in
     let l = t .before .loop in
     let s = start (t .before) in
     let n : l .sums .n ≡ length (seen (s .args .model) (passed s) (l .i)) = ap (λ (x : Sums). x .n) (l .inv .2) in
@@ -135,26 +139,26 @@ add-requires c κs =
 
 add-i-2 : tie.Need-add-i-2 Inv-loop μ-loop
 add-i-2 c =
-    let t = turn (c .before .before .before .before) in
+    let t = turn (c .before .before .before .before .before) in
     omega (arith, inside t, start (t .before) .pre .0 .rows-max)
 
 loop-less-2 : tie.Need-loop-less-2 Inv-loop μ-loop
-loop-less-2 c = omega (arith, inside (turn (c .before .before .before .before)))
+loop-less-2 c = omega (arith, inside (turn (c .before .before .before .before .before)))
 
 loop-again-2 : tie.Need-loop-again-2 Inv-loop μ-loop
 loop-again-2 c =
-    let d = c .before .before .before .before in
+    let d = c .before .before .before .before .before in
     let t = turn d in
     let l = t .before .loop in
     let s = start (t .before) in
     let i : Input = passed s in
-    let z = d .before .charge-at in
-    let y = d .before .before .before .widen in
-    let test = d .before .before .before .before .before in
+    let z = d .before .before .charge-at in
+    let y = d .before .before .before .before .widen in
+    let test = d .before .before .before .before .before .before in
     let trained : trains (getD (i .labels) (l .i) (pos 0)) (getD (i .qs) (l .i) nan) ≡ true = sym (test .before .trains-at .ensures) ∙ not-false _ (test .if1 .left) in
     let step = one-more (s .args .model) i (l .i) (z .result) (y .result) _ (l .sums) (c .add .result) (s .pre .0) (inside t) trained
-    (z .ensures) (y .ensures) (c .before .before .before .add-sample .ensures (seen (s .args .model) i (l .i)) (l .inv .1)) (l .inv .2) (c .add .ensures) in
-    (omega (arith, inside t), step .0, step .1, c .before .before .before .add-sample .kept .1 .1 .1 .1 .1 .1 .1 .1 .0 ∙ l .inv .3)
+    (z .ensures) (y .ensures) (c .before .before .before .before .add-sample .ensures (seen (s .args .model) i (l .i)) (l .inv .1)) (l .inv .2) (c .add .ensures) in
+    (omega (arith, inside t), step .0, step .1, c .before .before .before .before .add-sample .kept .1 .1 .1 .1 .1 .1 .1 .1 .1 .0 ∙ l .inv .3, c .before .before .before .before .add-sample .kept .1 .1 .1 .1 .1 .1 .1 .1 .0 ∙ l .inv .4)
 
 same-length : tie.Need-same-length Inv-loop μ-loop
 same-length c = c .before .loop .inv .3
@@ -184,6 +188,7 @@ accumulate-spec =
     mul-p
     shared-slice-read-p
     charge-at-requires
+    slice-aggregate-add-sample
     add-sample-requires
     add-requires
     add-i-2

@@ -1,4 +1,4 @@
--- `model_fit::training::predict_peptide` meets its contract: the local row holds the design row. Assumes nothing.
+-- `model_fit::training::predict_peptide` meets its contract: the room holds the design row. Assumes nothing.
 use mathlib.Core.Path.{_≡_, ap, _∙_}
 use mathlib.Core.List.{List}
 use Prim.Native.Nat.{ℕ, _≤_}
@@ -12,15 +12,14 @@ use Rattle.regression.specs.Regression.{dot}
 use Rattle.model_fit.specs.Input.{tableOf, queryOf}
 use Rattle.model_fit.specs.Samples.{designOf}
 use Rattle.model_fit.proofs.Laws.{front-take}
-use Rattle.model_fit.proofs.Rows.{order-max}
 use Rattle.model_fit.proofs.training.predict_peptide.Statement.{statement}
 use Rattle.model_fit.proofs.training.predict_peptide.Tie as tie
 
 -- where the function begins
 abbrev start : tie.After-order → tie.Start
-start o = o .before .before .before .before .before .before
+start o = o .before .before .before .before .before .before .before
 
--- the row is written: its length and the order are small
+-- the row is written: it is as long as it was, and long enough
 module _ (e : tie.After-embed-peptide) where
   abbrev o : tie.After-order
   o = e .before .before
@@ -34,38 +33,38 @@ module _ (e : tie.After-embed-peptide) where
   abbrev row : List Float
   row = e .embed-peptide .last .1 .1 .1 .1 .1 .1 .1 .0
 
-  long : length row ≡ 100
+  long : length row ≡ length (now (s .args .row))
   long = e .embed-peptide .kept .1 .1 .1 .1 .1 .1 .1 .0
 
-  small : d ≤ 100
-  small = omega (arith, o .order .ensures, order-max (s .args .model))
+  small : d ≤ length row
+  small = omega (arith, o .order .ensures, s .pre .1, long)
 
 order-requires : tie.Need-order-requires
 order-requires c κs = search needs
 
-slice-aggregate-embed-peptide : tie.Need-slice-aggregate-embed-peptide
-slice-aggregate-embed-peptide c = search needs
-
 embed-peptide-requires : tie.Need-embed-peptide-requires
-embed-peptide-requires c κs = let s = start (c .before) in (s .pre, order-max (s .args .model))
+embed-peptide-requires c κs = let s = start (c .before) in (s .pre .0, s .pre .1)
 
-array-share-prefix-row : tie.Need-array-share-prefix-row
-array-share-prefix-row c = let e = c .before in omega (arith, small e, long e)
+slice-reshare-prefix-predict : tie.Need-slice-reshare-prefix-predict
+slice-reshare-prefix-predict c = small (c .before .before)
 
 slice-aggregate-predict : tie.Need-slice-aggregate-predict
-slice-aggregate-predict c = let e = c .before .before in simp length-take (omega (arith, small e, long e))
+slice-aggregate-predict c = let e = c .before .before .before in simp length-take (omega (arith, small e))
 
 predict-requires : tie.Need-predict-requires
 predict-requires c κs = search needs
 
+same-length : tie.Need-same-length
+same-length c = long (c .before .before .before .before)
+
 returns : tie.Need-returns
 returns c =
-    let e = c .before .before .before in
+    let e = c .before .before .before .before in
     let a = s e .args in
     let table = tableOf (now (a .letters)) (now (a .offsets)) (now (a .masses)) (now (a .logs)) in
     let design : List Float = designOf (a .model) table (queryOf (a .peptide .0) (a .charge)) in
     let x : take (d e) (row e) ≡ design =
-    ap (λ (n : ℕ). take n (row e)) (o e .order .ensures) ∙ front-take design _ (row e) (orderOf (a .model)) (e .embed-peptide .ensures) (long e) (order-max (a .model)) in
+    ap (λ (n : ℕ). take n (row e)) (o e .order .ensures) ∙ front-take design _ (row e) (orderOf (a .model)) (e .embed-peptide .ensures) (long e) (s e .pre .1) in
     c .predict .ensures ∙ ap (λ (r : List Float). dot r (now (a .beta))) x
 
 pub predict-peptide-spec : {M : Type 1} → statement M
@@ -73,9 +72,9 @@ predict-peptide-spec =
     tie.close
     (tie.spec
     order-requires
-    slice-aggregate-embed-peptide
     embed-peptide-requires
-    array-share-prefix-row
+    slice-reshare-prefix-predict
     slice-aggregate-predict
     predict-requires
+    same-length
     returns)

@@ -1,6 +1,6 @@
 -- `model_fit::training::sum_squares` meets its contract. The loop's invariant: the sum is that of the training rows among the
 -- first k. Assumes nothing.
-use mathlib.Core.Path.{_≡_, sym, ap, _∙_}
+use mathlib.Core.Path.{_≡_, refl, sym, ap, _∙_}
 use mathlib.Core.Bool.{true, false}
 use mathlib.Core.List.{List, [], _∷_, _++_}
 use Prim.Native.Nat.{ℕ, _+_, _-_, _≤_, _<_}
@@ -19,17 +19,17 @@ use Rattle.regression.proofs.Laws.{sse-nil, sse-snoc}
 use Rattle.model_fit.specs.Input.{Input, inputOf, queryOf}
 use Rattle.model_fit.specs.Samples.{designOf}
 use Rattle.model_fit.specs.Shared.{Checked}
-use Rattle.model_fit.proofs.Rows.{seen, sampleAt, seen-trains, seen-outside, seen-all}
+use Rattle.model_fit.proofs.Rows.{order-max, seen, sampleAt, seen-trains, seen-outside, seen-all}
 use Rattle.model_fit.proofs.Status.{listed}
 use Rattle.model_fit.proofs.training.sum_squares.Statement.{statement}
 use Rattle.model_fit.proofs.training.sum_squares.Tie as tie
 
 abbrev Inv-loop : tie.InvT-loop
-Inv-loop model peptide label q charge observed letters offsets masses logs beta sse₀ k₀ k-end sse k =
-    (k ≤ length peptide) × (sse ≡ sseOf beta (seen model (inputOf peptide label q charge observed letters offsets masses logs) k))
+Inv-loop model peptide label q charge observed letters offsets masses logs beta row₀ sse₀ k₀ k-end row sse k =
+    (k ≤ length peptide) × (sse ≡ sseOf beta (seen model (inputOf peptide label q charge observed letters offsets masses logs) k)) × (length row ≡ 100)
 
 abbrev μ-loop : tie.MeasureT-loop
-μ-loop model peptide label q charge observed letters offsets masses logs beta sse₀ k₀ k-end sse k = length peptide - k
+μ-loop model peptide label q charge observed letters offsets masses logs beta row₀ sse₀ k₀ k-end row sse k = length peptide - k
 
 -- where the function begins, and what it was passed
 abbrev start : tie.At-loop Inv-loop μ-loop → tie.Start Inv-loop μ-loop
@@ -63,7 +63,7 @@ one-more model i beta k z x y before checked h t ez ey ex eb =
 
 loop-holds : tie.Need-loop-holds Inv-loop μ-loop
 unfolding kept ofBits
-loop-holds c = (search needs, sym (sse-nil (now (c .before .before .before .before .before .before .before .before .before .args .beta))))
+loop-holds c = (search needs, sym (sse-nil (now (c .before .before .before .before .before .before .before .before .before .args .beta))), refl)
 
 trains-at-requires : tie.Need-trains-at-requires Inv-loop μ-loop
 trains-at-requires c κs = let s = start (c .before) in (omega (arith, s .pre .labels-long), omega (arith, s .pre .qs-long))
@@ -83,7 +83,7 @@ loop-again c =
     let k = at .loop .k in
     let t : trains (getD (i .labels) k (pos 0)) (getD (i .qs) k nan) ≡ false = sym (c .before .trains-at .ensures) ∙ not-true _ (c .if1 .taken) in
     let n : seen model i (k + 1) ≡ seen model i k = rw (add-one k) (seen-outside model i (s .pre) k (inside (c .before .before)) t) in
-    (omega arith, at .loop .inv .1 ∙ ap (sseOf (now (s .args .beta))) (sym n))
+    (omega arith, at .loop .inv .1 ∙ ap (sseOf (now (s .args .beta))) (sym n), at .loop .inv .2)
 
 mul-widen : tie.Need-mul-widen Inv-loop μ-loop
 mul-widen c = omega (arith, start (c .before .before .before) .pre .observed-long)
@@ -103,8 +103,14 @@ shared-slice-read-p c = search needs
 charge-at-requires : tie.Need-charge-at-requires Inv-loop μ-loop
 charge-at-requires c κs = search needs
 
+slice-aggregate-predict-peptide : tie.Need-slice-aggregate-predict-peptide Inv-loop μ-loop
+slice-aggregate-predict-peptide c = sym (c .before .before .before .before .before .before .before .before .loop .inv .2)
+
 predict-peptide-requires : tie.Need-predict-peptide-requires Inv-loop μ-loop
-predict-peptide-requires c κs = let t = turn c in listed _ _ _ (start (t .before) .pre .numbered) (inside t)
+predict-peptide-requires c κs =
+    let t = turn (c .before) in
+    let s = start (t .before) in
+    (listed _ _ _ (s .pre .numbered) (inside t), omega (arith, order-max (s .args .model), t .before .loop .inv .2))
 
 residual-of-requires : tie.Need-residual-of-requires Inv-loop μ-loop
 residual-of-requires c κs = search needs
@@ -117,8 +123,8 @@ loop-less-2 c = search needs
 
 loop-again-2 : tie.Need-loop-again-2 Inv-loop μ-loop
 loop-again-2 c =
-    let d = c .before .before in
-    let x = c .before .predict-peptide in
+    let d = c .before .before .before .before in
+    let x = c .before .before .predict-peptide in
     let t = turn d in
     let l = t .before .loop in
     let s = start (t .before) in
@@ -130,6 +136,7 @@ loop-again-2 c =
       rw (c .residual-of .ensures)
           (one-more (s .args .model) i (now (s .args .beta)) (l .k) (d .charge-at .result) (x .result) (y .result) (l .sse) (s .pre) (inside t) trained
           (d .charge-at .ensures) (y .ensures) (x .ensures) (l .inv .1)),
+      x .kept .1 .1 .1 .1 .1 .1 .1 .1 .0 ∙ l .inv .2,
     )
 
 returns : tie.Need-returns Inv-loop μ-loop
@@ -154,6 +161,7 @@ sum-squares-spec =
     mul-p
     shared-slice-read-p
     charge-at-requires
+    slice-aggregate-predict-peptide
     predict-peptide-requires
     residual-of-requires
     add-k-2

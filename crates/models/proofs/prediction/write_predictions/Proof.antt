@@ -1,6 +1,6 @@
 -- `models::prediction::write_predictions` meets its contract. The loop's invariant: the first i cells are the predictions of the first i rows, and the others
 -- are as they were. Assumes nothing.
-use mathlib.Core.Path.{_≡_, refl, _∙_}
+use mathlib.Core.Path.{_≡_, refl, sym, _∙_}
 use mathlib.Core.List.{List, _++_, map}
 use Prim.Native.Nat.{ℕ, _+_, _-_, _≤_, _<_}
 use native.Mathlib.Omega.{arith}
@@ -10,6 +10,7 @@ use lib.ListN.{length, take, drop, length-set}
 use Rattle.peptide.specs.Table.{Table}
 use Rattle.model_fit.specs.Input.{tableOf, queryOf, queries}
 use Rattle.matrix.proofs.Lists.{overwrite-all}
+use Rattle.model_fit.proofs.Rows.{order-max}
 use Rattle.model_fit.proofs.Status.{listed}
 use Rattle.models.specs.Prediction.{predictionOf}
 use Rattle.models.proofs.Writing.{write-next, length-predictions, prediction-at}
@@ -18,32 +19,39 @@ use Rattle.models.proofs.prediction.write_predictions.Statement.{statem
 use Rattle.models.proofs.prediction.write_predictions.Tie as tie
 
 abbrev Inv-loop : tie.InvT-loop
-Inv-loop model peptide charge letters offsets masses logs beta predicted₀ hi i₀ i-end predicted i =
+Inv-loop model peptide charge letters offsets masses logs beta predicted₀ hi row₀ i₀ i-end predicted row i =
     let new = map (predictionOf model (tableOf letters offsets masses logs) beta) (queries peptide charge) in
-    (i ≤ length peptide) × (predicted ≡ take i new ++ drop i predicted₀) × (length predicted ≡ length predicted₀)
+    (i ≤ length peptide) × (predicted ≡ take i new ++ drop i predicted₀) × (length predicted ≡ length predicted₀) × (length row ≡ 100)
 
 abbrev μ-loop : tie.MeasureT-loop
-μ-loop model peptide charge letters offsets masses logs beta predicted₀ hi i₀ i-end predicted i = length peptide - i
+μ-loop model peptide charge letters offsets masses logs beta predicted₀ hi row₀ i₀ i-end predicted row i = length peptide - i
 
 largest-requires : tie.Need-largest-requires Inv-loop μ-loop
 largest-requires c κs = search needs
 
 loop-holds : tie.Need-loop-holds Inv-loop μ-loop
-loop-holds c = (search needs, refl, refl)
+loop-holds c = (search needs, refl, refl, refl)
 
-mul-t17 : tie.Need-mul-t17 Inv-loop μ-loop
-mul-t17 c = search needs
+mul-t18 : tie.Need-mul-t18 Inv-loop μ-loop
+mul-t18 c = search needs
 
-shared-slice-read-t19 : tie.Need-shared-slice-read-t19 Inv-loop μ-loop
-shared-slice-read-t19 c = search needs
+shared-slice-read-t20 : tie.Need-shared-slice-read-t20 Inv-loop μ-loop
+shared-slice-read-t20 c = search needs
 
 charge-at-requires : tie.Need-charge-at-requires Inv-loop μ-loop
 charge-at-requires c κs = search needs
 
+slice-aggregate-predict-peptide : tie.Need-slice-aggregate-predict-peptide Inv-loop μ-loop
+slice-aggregate-predict-peptide c = sym (c .before .before .before .before .loop .inv .3)
+
 predict-peptide-requires : tie.Need-predict-peptide-requires Inv-loop μ-loop
 predict-peptide-requires c κs =
-    let a = c .before .before .before .before .before .before .before .before .before .before .before .before .before .args in
-    listed (tableOf (now (a .letters)) (now (a .offsets)) (now (a .masses)) (now (a .logs))) (now (a .peptide)) (c .before .before .before .loop .i) (c .before .before .before .before .before .before .before .before .before .before .before .before .before .pre .0) (c .before .before .loop-test .taken)
+    let s = c .before .before .before .before .before .before .before .before .before .before .before .before .before .before in
+    let a = s .args in
+    let l = c .before .before .before .before .loop in (
+      listed (tableOf (now (a .letters)) (now (a .offsets)) (now (a .masses)) (now (a .logs))) (now (a .peptide)) (l .i) (s .pre .0) (c .before .before .before .loop-test .taken),
+      omega (arith, order-max (a .model), l .inv .3),
+    )
 
 clamp64-requires : tie.Need-clamp64-requires Inv-loop μ-loop
 clamp64-requires c κs = search needs
@@ -55,7 +63,7 @@ mul-predicted : tie.Need-mul-predicted Inv-loop μ-loop
 mul-predicted c = search needs
 
 slice-write-predicted : tie.Need-slice-write-predicted Inv-loop μ-loop
-slice-write-predicted c = omega (arith, c .before .before .before .before .before .before .loop .inv .2, c .before .before .before .before .before .loop-test .taken, c .before .before .before .before .before .before .before .before .before .before .before .before .before .before .before .before .pre .1)
+slice-write-predicted c = let l = c .before .before .before .before .before .before .before .before .loop in omega (arith, l .inv .2, c .before .before .before .before .before .before .before .loop-test .taken, c .before .before .before .before .before .before .before .before .before .before .before .before .before .before .before .before .before .before .pre .1)
 
 add-i : tie.Need-add-i Inv-loop μ-loop
 add-i c = search needs
@@ -65,19 +73,23 @@ loop-less c = search needs
 
 loop-again : tie.Need-loop-again Inv-loop μ-loop
 loop-again c =
-    let a = c .before .before .before .before .before .before .before .before .before .before .before .before .before .before .before .before .args in
-    let l = c .before .before .before .before .before .before .loop in
+    let s = c .before .before .before .before .before .before .before .before .before .before .before .before .before .before .before .before .before .before in
+    let a = s .args in
+    let l = c .before .before .before .before .before .before .before .before .loop in
     let table : Table = tableOf (now (a .letters)) (now (a .offsets)) (now (a .masses)) (now (a .logs)) in
     let beta : List Float = now (a .beta) in
     let peptides : List ℕ = now (a .peptide) in
     let charges : List ℕ = now (a .charge) in
     let new : List Float = map (predictionOf (a .model) table beta) (queries peptides charges) in
-    let t : l .i < length peptides = c .before .before .before .before .before .loop-test .taken in
-    let p : length peptides ≤ length (now (a .predicted)) = c .before .before .before .before .before .before .before .before .before .before .before .before .before .before .before .before .pre .1 in
+    let t : l .i < length peptides = c .before .before .before .before .before .before .before .loop-test .taken in
+    let p : length peptides ≤ length (now (a .predicted)) = s .pre .1 in
     let n : length new ≡ length peptides = length-predictions (a .model) table beta peptides charges in
+    let z = c .before .before .before .before .before .charge-at in
+    let x = c .before .before .before .predict-peptide in
+    let hi = c .before .before .before .before .before .before .before .before .before .largest in
     let v =
-    prediction-at (a .model) table beta peptides charges (l .i) (c .before .before .before .charge-at .result) (c .before .before .predict-peptide .result) (c .before .before .before .before .before .before .before .largest .result) (c .before .clamp64 .result) (c .narrow .result) t (c .before .before .before .charge-at .ensures) (c .before .before .predict-peptide .ensures) (c .before .before .before .before .before .before .before .largest .ensures) (c .before .clamp64 .ensures) (c .narrow .ensures) in
-    (omega arith, write-next new (now (a .predicted)) (l .predicted) (l .i) (c .narrow .result) (predictionOf (a .model) table beta (queryOf 0 0)) (omega arith) (omega arith) (l .inv .1) v, simp length-set (l .inv .2))
+    prediction-at (a .model) table beta peptides charges (l .i) (z .result) (x .result) (hi .result) (c .before .clamp64 .result) (c .narrow .result) t (z .ensures) (x .ensures) (hi .ensures) (c .before .clamp64 .ensures) (c .narrow .ensures) in
+    (omega arith, write-next new (now (a .predicted)) (l .predicted) (l .i) (c .narrow .result) (predictionOf (a .model) table beta (queryOf 0 0)) (omega arith) (omega arith) (l .inv .1) v, simp length-set (l .inv .2), x .kept .1 .1 .1 .1 .1 .1 .1 .1 .0 ∙ l .inv .3)
 
 same-length : tie.Need-same-length Inv-loop μ-loop
 same-length c = c .before .loop .inv .2
@@ -101,9 +113,10 @@ write-predictions-spec =
     μ-loop
     largest-requires
     loop-holds
-    mul-t17
-    shared-slice-read-t19
+    mul-t18
+    shared-slice-read-t20
     charge-at-requires
+    slice-aggregate-predict-peptide
     predict-peptide-requires
     clamp64-requires
     narrow-requires
