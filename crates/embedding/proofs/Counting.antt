@@ -5,14 +5,15 @@ use mathlib.Core.Bool.{Bool, true, false, not, _&&_, _||_, cond}
 use mathlib.Core.List.{List, [], _∷_, _++_, map}
 use Prim.Native.Nat.{ℕ, zero, suc, _+_, _≤_, _<_}
 use native.Mathlib.Nat.{add-zero, zero-add, add-suc, suc-add, le-of-suc-le-suc, not-suc-le-zero}
+use native.Mathlib.Decide.{decLt}
 use native.Mathlib.Omega.{arith}
 use native.Mathlib.Numerals.{add-one}
-use lib.Dec.{T, eqb, ltb, ltb→lt}
-use lib.ListN.{length, getD, set, take, drop, length-map, drop-of-length-le}
+use lib.Dec.{T, eqb}
+use lib.ListN.{length, getD, set, take, length-map, List·getD-eq-default}
 use lib.Seq.{length-take-le}
 use mir.Facts.{and-yes}
 use borrow.Author.Tests.{eq-eqb, ne-eqb, eqb-true}
-use Rattle.embedding.specs.Count.{howMany, oneOf, range, tallied, AllBelow, total}
+use Rattle.embedding.specs.Count.{howMany, oneOf, range, tallied, total}
 
 -- ---- how many elements pass
 
@@ -63,6 +64,12 @@ map-take-suc f [] i d h = absurd (not-suc-le-zero h)
 map-take-suc f (x ∷ xs) zero d h = refl
 map-take-suc {B = B} f (x ∷ xs) (suc i) d h = ap {B = List B} (λ r. f x ∷ r) (map-take-suc f xs i d (le-of-suc-le-suc h))
 
+-- an element of the list, whatever stands for one past its end
+pub same-element : {A : Type 0} (xs : List A) (k : ℕ) (d e : A) → k < length xs → getD xs k d ≡ getD xs k e
+same-element [] k d e h = absurd (not-suc-le-zero h)
+same-element (x ∷ xs) zero d e h = refl
+same-element (x ∷ xs) (suc k) d e h = same-element xs k d e (le-of-suc-le-suc h)
+
 -- ---- a list over the numbers from a on
 
 map-range : (f g : ℕ → ℕ) (a m : ℕ) → ((k : ℕ) → a ≤ k → f k ≡ g k) → map f (range a m) ≡ map g (range a m)
@@ -85,6 +92,14 @@ set-range f g a (suc m) (suc j) h e =
     rw (e a (λ q. omega arith), add-suc, ← suc-add) (ap {B = List ℕ} (λ r. g a ∷ r) (set-range f g (suc a) m j (le-of-suc-le-suc h) (λ k l. e k (λ q. l (omega arith)))))
 
 -- ---- tallies
+
+pub length-tally : (m : ℕ) (xs : List ℕ) → length (tallied (range 0 m) xs) ≡ m
+unfolding tallied range
+length-tally m xs = from 0 m
+  where
+    from : (a m : ℕ) → length (map (λ k. howMany (λ x. eqb x k) xs) (range a m)) ≡ m
+    from a zero = refl
+    from a (suc m) = ap suc (from (suc a) m)
 
 -- a cell of a tally
 pub tally-at : (m : ℕ) (xs : List ℕ) (k : ℕ) → k < m → getD (tallied (range 0 m) xs) k 0 ≡ howMany (λ x. eqb x k) xs
@@ -111,11 +126,24 @@ tally-more m xs x h =
     there : (k : ℕ) → (k ≡ 0 + x → ⊥) → howMany (λ y. eqb y k) xs ≡ howMany (λ y. eqb y k) (xs ++ (x ∷ []))
     there k d = rw (one k, ne-eqb x k (λ e. d (omega arith)), add-zero)
 
--- a tally's cells at some numbers are the tally of those
-pub tally-part : (m : ℕ) (xs ks : List ℕ) → AllBelow m ks → map (λ k. getD (tallied (range 0 m) xs) k 0) ks ≡ tallied ks xs
-unfolding tallied
-tally-part m xs [] h = refl
-tally-part m xs (k ∷ ks) h = rw (tally-at m xs k (h .0), tally-part m xs ks (h .1))
+-- A tally's cells at some numbers are the tally of those: what it tallies is below m, so a number from m on, which has no cell, is met nowhere.
+module _ (m : ℕ) (f : ℕ → ℕ) (below : (x : ℕ) → f x < m) (xs : List ℕ) where
+  none-above : (ys : List ℕ) (k : ℕ) → m ≤ k → howMany (λ x. eqb x k) (map f ys) ≡ 0
+  unfolding howMany
+  none-above [] k h = refl
+  none-above (y ∷ ys) k h = rw (ne-eqb (f y) k (λ e. omega (arith, below y)), none-above ys k h)
+
+  cell : (k : ℕ) → getD (tallied (range 0 m) (map f xs)) k 0 ≡ howMany (λ x. eqb x k) (map f xs)
+  cell k = by (decLt k m)
+    where
+      by : Dec (k < m) → getD (tallied (range 0 m) (map f xs)) k 0 ≡ howMany (λ x. eqb x k) (map f xs)
+      by (yes h) = tally-at m (map f xs) k h
+      by (no h) = List·getD-eq-default (tallied (range 0 m) (map f xs)) 0 {n = k} (rw length-tally (omega arith)) ∙ sym (none-above xs k (omega arith))
+
+  pub tally-cells : (ks : List ℕ) → map (λ k. getD (tallied (range 0 m) (map f xs)) k 0) ks ≡ tallied ks (map f xs)
+  unfolding tallied
+  tally-cells [] = refl
+  tally-cells (k ∷ ks) = rw (cell k, tally-cells ks)
 
 -- a test that fails
 off : (t : Bool) → T (not t) → t ≡ false
@@ -146,14 +174,6 @@ total-tally (k ∷ ks) xs d =
     apart : (x : ℕ) → eqb x k ≡ true → oneOf ks x ≡ false
     apart x e = rw (eqb-true x k e) (off (oneOf ks k) (both .0))
 
-pub length-tally : (m : ℕ) (xs : List ℕ) → length (tallied (range 0 m) xs) ≡ m
-unfolding tallied range
-length-tally m xs = from 0 m
-  where
-    from : (a m : ℕ) → length (map (λ k. howMany (λ x. eqb x k) xs) (range a m)) ≡ m
-    from a zero = refl
-    from a (suc m) = ap suc (from (suc a) m)
-
 pub one-of-range : (a m k : ℕ) → k < m → oneOf (range a m) (a + k) ≡ true
 unfolding oneOf range
 one-of-range a zero k h = absurd (not-suc-le-zero h)
@@ -173,37 +193,3 @@ module _ (m : ℕ) (f : ℕ → ℕ) (xs counts : List ℕ) (i : ℕ) (is : coun
       ap (λ (cs : List ℕ). set cs k (getD cs k 0 + 1)) is
       ∙ tally-more m (map f (take i xs)) k l
       ∙ ap (tallied (range 0 m)) (ap (λ (j : ℕ). map f (take i xs) ++ (j ∷ [])) e ∙ map-take-suc f xs i 0 h ∙ ap (λ (j : ℕ). map f (take j xs)) (sym (add-one i)))
-
--- ---- a loop that adds up: what is left, with the sum so far, gives the whole
-
-pub all-at : (m : ℕ) (xs : List ℕ) (i : ℕ) → AllBelow m xs → i < length xs → getD xs i 0 < m
-all-at m [] i b h = absurd (not-suc-le-zero h)
-all-at m (x ∷ xs) zero b h = b .0
-all-at m (x ∷ xs) (suc i) b h = all-at m xs i (b .1) (le-of-suc-le-suc h)
-
--- a test of a whole list
-unfoldable pub allb : ℕ → List ℕ → Bool
-allb m [] = true
-allb m (x ∷ xs) = ltb x m && allb m xs
-
-pub all-below : (m n : ℕ) (xs : List ℕ) → m ≤ n → T (allb m xs) → AllBelow n xs
-unfolding allb
-all-below m n [] h t = tt
-all-below m n (x ∷ xs) h t = let u = and-yes (ltb x m) (allb m xs) t in (omega (arith, ltb→lt x m (u .0)), all-below m n xs h (u .1))
-
-total-drop : (f : ℕ → ℕ) (xs : List ℕ) (i : ℕ) → i < length xs → total (map f (drop i xs)) ≡ f (getD xs i 0) + total (map f (drop (suc i) xs))
-unfolding total
-total-drop f [] i h = absurd (not-suc-le-zero h)
-total-drop f (x ∷ xs) zero h = refl
-total-drop f (x ∷ xs) (suc i) h = total-drop f xs i (le-of-suc-le-suc h)
-
-module _ (f : ℕ → ℕ) (xs : List ℕ) (i s t : ℕ) (is : s + total (map f (drop i xs)) ≡ t) where
-  pub sum-le : i < length xs → s + f (getD xs i 0) ≤ t
-  sum-le h = omega (arith, total-drop f xs i h)
-
-  pub sum-next : i < length xs → s + f (getD xs i 0) + total (map f (drop (i + 1) xs)) ≡ t
-  sum-next h = rw (add-one i) (omega (arith, total-drop f xs i h))
-
-  pub sum-all : length xs ≤ i → s ≡ t
-  unfolding total
-  sum-all h = let e : total (map f (drop i xs)) ≡ 0 = ap (λ (l : List ℕ). total (map f l)) (drop-of-length-le xs h) in omega arith

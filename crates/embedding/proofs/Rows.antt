@@ -11,6 +11,7 @@ use lib.Ieee.{Float, binary64, add, ofBits, ofInt}
 use lib.ListN.{length, length-append, getD, set, take, drop, replicate, length-take, length-drop, take-append-drop}
 use lib.Seq.{length-take-le, take-nil, take-at, drop-at, drop-append-le, drop-drop}
 use Rattle.mass.specs.Mass.{columnOf}
+use Rattle.matrix.specs.Lists.{overwritten}
 use Rattle.embedding.specs.Count.{howMany, range, tallied}
 use Rattle.float.specs.Number.{number, zero64}
 use Rattle.float.proofs.Whole.{number-add}
@@ -18,20 +19,22 @@ use Rattle.embedding.specs.Design.{everywhere, chosen, columnCounts, cou
 use Rattle.embedding.proofs.Counting.{counter-le, length-tally, tally-next}
 use Rattle.embedding.proofs.Positions.{chosen-everywhere}
 
--- one cell more is made from an element
-pub fill-more : {A B : Type 0} (g : A → B) (xs : List A) (row : List B) (k : ℕ) (d : A) → k < length xs → k < length row
-    → set (map g (take k xs) ++ drop k row) k (g (getD xs k d)) ≡ map g (take (suc k) xs) ++ drop (suc k) row
-fill-more g [] row k d h l = absurd (not-suc-le-zero h)
-fill-more g (x ∷ xs) [] k d h l = absurd (not-suc-le-zero l)
-fill-more g (x ∷ xs) (r ∷ row) zero d h l = refl
-fill-more {B = B} g (x ∷ xs) (r ∷ row) (suc k) d h l = ap {B = List B} (λ t. g x ∷ t) (fill-more g xs row k d (le-of-suc-le-suc h) (le-of-suc-le-suc l))
-
 -- a part of a list
 pub part : {A : Type 0} (a e : ℕ) (xs : List A) → a ≤ e → take (e - a) (drop a xs) ≡ drop a (take e xs)
 part zero e xs h = ap (λ (k : ℕ). take k xs) (sub-zero e)
 part (suc a) zero xs h = absurd (not-suc-le-zero h)
 part (suc a) (suc e) [] h = take-nil (suc e - suc a)
 part (suc a) (suc e) (x ∷ xs) h = ap (λ (k : ℕ). take k (drop a xs)) (suc-sub-suc e a) ∙ part a e xs (le-of-suc-le-suc h)
+
+-- a row whose part of w cells from a on was lent, and came back
+abbrev pub returned : {A : Type 0} → (a w : ℕ) → (row back : List A) → List A
+returned a w row back = take a row ++ (back ++ drop w (drop a row))
+
+pub same-size : {A : Type 0} (a w : ℕ) (row back : List A) → length back ≡ length (take w (drop a row)) → a + w ≤ length row → length (returned a w row back) ≡ length row
+same-size a w row back e h =
+    let n : length (take w (drop a row)) ≡ w = length-take-le w (drop a row) (rw length-drop (omega arith)) in
+    let m : length (take a row) ≡ a = length-take-le a row (omega arith) in
+    simp (length-append, length-drop) (omega arith)
 
 -- ---- blocks
 
@@ -45,7 +48,7 @@ done-none old = record { cells = refl; long = refl }
 
 -- One block more: from a on a part of w cells was lent, and came back with the block b, of k cells, and behind it what it held.
 pub next-block : {A : Type 0} (a k w : ℕ) (done b old row back : List A) → Done a done old row → length b ≡ k → k ≤ w → a + w ≤ length old
-    → back ≡ b ++ drop k (take w (drop a row)) → Done (a + k) (done ++ b) old (take a row ++ (back ++ drop w (drop a row)))
+    → back ≡ b ++ drop k (take w (drop a row)) → Done (a + k) (done ++ b) old (returned a w row back)
 next-block {A} a k w done b old row back so size fits room e = record {
   cells = rw (e, t, d, behind, drop-drop) (sym (append-assoc done b (drop (a + k) old)));
   long = length-append done b ∙ omega (arith, so .long);
@@ -66,6 +69,10 @@ next-block {A} a k w done b old row back so size fits room e = record {
         ∙ ap (λ (t : List A). b ++ t) (sym (drop-append-le k (take w (drop a old)) (drop w (drop a old)) enough) ∙ ap (drop k) (take-append-drop w (drop a old)))
 
 -- ---- constants of the code
+
+pub none : zero64 ≡ number 0
+unfolding ofBits ofInt
+none = refl
 
 pub one : ofBits binary64 4607182418800017408 ≡ number 1
 unfolding ofBits ofInt
@@ -105,11 +112,6 @@ cleared old back h e =
 
 -- ---- the counts of the 22 columns
 
--- they are the first of the 26 counters
-pub counters : (letters : List ℕ) → take 22 (tallied (range 0 26) (map columnOf letters)) ≡ columnCounts letters
-unfolding columnCounts
-counters letters = refl
-
 pub length-counts : (sel : ℕ → ℕ → Bool) (letters : List ℕ) → length (counts sel letters) ≡ 22
 unfolding counts
 length-counts sel letters = refl
@@ -124,11 +126,20 @@ pub embedded : (letters : List ℕ) (sel : ℕ → ℕ → Bool) (held : List �
 unfolding block counts
 embedded letters sel held rest back e h = e ∙ ap (λ (l : List ℕ). map number (columnCounts l) ++ rest) h
 
--- what came back from writing the 26 counters of all letters, each made a cell
-pub written : (g : ℕ → Float) (letters cs : List ℕ) (rest back : List Float) → back ≡ map g (take 22 cs) ++ rest
-    → cs ≡ tallied (range 0 26) (map columnOf letters) → back ≡ map g (counts everywhere letters) ++ rest
-unfolding counts
-written g letters cs rest back e h =
+-- what came back from copying the counts of all letters
+pub copied : (letters : List ℕ) (cells rest back : List Float) → back ≡ overwritten cells rest → cells ≡ map number (columnCounts letters)
+    → back ≡ block everywhere letters ++ drop 22 rest
+unfolding block counts columnCounts tallied range
+copied letters cells rest back e h =
     e
-    ∙ ap (λ (l : List ℕ). map g (take 22 l) ++ rest) h
-    ∙ ap (λ (l : List ℕ). map g l ++ rest) (counters letters ∙ ap columnCounts (sym (chosen-everywhere letters)))
+    ∙ ap (λ (t : List Float). overwritten t rest) h
+    ∙ ap (λ (l : List ℕ). overwritten (map number (columnCounts l)) rest) (sym (chosen-everywhere letters))
+
+-- what came back from making a cell of each of them
+pub made : (g : Float → Float) (letters : List ℕ) (cells rest back : List Float) → back ≡ overwritten (map g cells) rest → cells ≡ map number (columnCounts letters)
+    → back ≡ map (λ c. g (number c)) (counts everywhere letters) ++ drop 22 rest
+unfolding counts columnCounts tallied range
+made g letters cells rest back e h =
+    e
+    ∙ ap (λ (t : List Float). overwritten (map g t) rest) h
+    ∙ ap (λ (l : List ℕ). overwritten (map g (map number (columnCounts l))) rest) (sym (chosen-everywhere letters))

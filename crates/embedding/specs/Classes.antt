@@ -1,9 +1,11 @@
 -- The six classes of residues whose counts are columns of the mobility model. Definitions only.
 use Prim.Native.Nat.{ℕ}
 use mathlib.Core.List.{List, [], _∷_, map}
+use lib.Ieee.{Float}
 use lib.ListN.{getD}
+use Rattle.float.specs.Number.{zero64, sumFrom}
 use Rattle.mass.specs.Mass.{columnOf}
-use Rattle.embedding.specs.Count.{howMany, oneOf, total}
+use Rattle.embedding.specs.Count.{howMany, oneOf}
 
 -- Each class is the places in the alphabet, from 0, of the letters after it.
 abbrev pub branched : List ℕ
@@ -37,7 +39,11 @@ unfoldable pub classCounts : List ℕ → List ℕ
 unfolding howMany oneOf
 classCounts letters = map (λ class. howMany (λ letter. oneOf class (classNumber letter)) letters) classes
 
--- for each class, the sum of the counts at its numbers, where the counts are those of the numbers from 0 on
-unfoldable pub classSums : List ℕ → List ℕ
-unfolding total
-classSums counts = map (λ class. total (map (λ k. getD counts k 0) class)) classes
+-- the sum of the cells at a class's numbers, where the cells are those of the numbers from 0 on
+unfoldable pub classSum : List Float → List ℕ → Float
+classSum cells class = sumFrom zero64 (map (λ k. getD cells k zero64) class)
+
+-- the same for each class
+unfoldable pub classSums : List Float → List Float
+unfolding classSum
+classSums cells = map (classSum cells) classes

@@ -29,11 +29,6 @@ unfoldable pub picked : {A : Type 0} → (ℕ → Bool) → ℕ → List A → L
 picked p i [] = []
 picked p i (x ∷ xs) = let rest = picked p (suc i) xs in cond (p i) (x ∷ rest) rest
 
--- every element is below m
-abbrev pub AllBelow : ℕ → List ℕ → Type 0
-AllBelow m [] = Unit {0}
-AllBelow m (x ∷ xs) = (x < m) × AllBelow m xs
-
 -- the sum of a list
 unfoldable pub total : List ℕ → ℕ
 total [] = 0

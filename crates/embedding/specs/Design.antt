@@ -48,9 +48,12 @@ counts sel letters = columnCounts (chosen sel letters)
 
 -- ---- cells
 
--- a count's share of a length: NaN for the empty peptide
+-- a cell's share of a length, and a count's: NaN for the empty peptide
+abbrev pub shareOf : ℕ → Float → Float
+shareOf n x = div binary64 x (number n)
+
 abbrev pub share : ℕ → ℕ → Float
-share n c = div binary64 (number c) (number n)
+share n c = shareOf n (number c)
 
 -- the counts at the positions that pass, as cells
 unfoldable pub block : (ℕ → ℕ → Bool) → List ℕ → List Float

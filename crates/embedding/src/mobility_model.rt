@@ -1,18 +1,16 @@
 // The 100 columns of sage's mobility_model.rs.
 ghost use mathlib.Core.Path.{_≡_};
-ghost use mathlib.Core.List.{_++_, map};
+ghost use mathlib.Core.List.{_++_};
 ghost use Prim.Native.Nat.{_≤_, _<_, _^_};
 ghost use lib.ListN.{length, drop, getD};
-ghost use Rattle.float.specs.Number.{number};
+ghost use Rattle.float.specs.Number.{zero64};
 ghost use Rattle.embedding.specs.Design.{chosen, cTerminal, mobilityScalars, mobilityRow};
-ghost use Rattle.embedding.specs.Classes.{classSums};
-ghost use Rattle.embedding.specs.Count.{AllBelow, total};
+ghost use Rattle.embedding.specs.Classes.{classSum, classSums};
 ghost use Rattle.embedding.specs.declared.Model.{Model};
 use crate::residues::embed_part;
 use crate::residues::n_terminal;
 use crate::residues::put_counts;
 use crate::residues::put_shares;
-use crate::residues::tally;
 use crate::residues::two_before;
 
 pub(crate) const FEATURES: usize = 100;
@@ -37,35 +35,40 @@ fn c_terminal(letters: &[u8]) -> &[u8]
     two_before(letters, letters.len())
 }
 
-// The sum of the counts at the numbers of a class.
-fn class_count(counts: &[u32], class: &[usize]) -> u32
-    requires { ⌜ AllBelow (length (now counts)) (now class) ⌝ }
-    requires { ⌜ total (map (λ k. getD (now counts) k 0) (now class)) < 2 ^ 32 ⌝ }
-    ensures { λ r. ⌜ r ≡ total (map (λ k. getD (now (counts .entry)) k 0) (now (class .entry))) ⌝ }
+// The count of column k, and 0.0 where there is no such column.
+fn count_at(counts: &[f64], k: usize) -> f64
+    ensures { λ r. ⌜ r ≡ getD (now (counts .entry)) k zero64 ⌝ }
 {
-    let mut sum = 0u32;
+    if k < counts.len() {
+        return counts[k];
+    }
+    0.0
+}
+
+// The sum of the counts at the numbers of a class.
+fn class_count(counts: &[f64], class: &[usize]) -> f64
+    ensures { λ r. ⌜ r ≡ classSum (now (counts .entry)) (now (class .entry)) ⌝ }
+{
+    let mut sum = 0.0;
     let mut i = 0;
     while i < class.len() {
-        let k = class[i];
-        sum += counts[k];
+        sum = sum + count_at(counts, class[i]);
         i += 1;
     }
     sum
 }
 
 // Writes the counts of the six classes into the first cells of `row`.
-fn put_classes(counts: &[u32], row: &mut [f64])
-    requires { ⌜ 26 ≤ length (now counts) ⌝ }
-    requires { ⌜ AllBelow (2 ^ 32) (classSums (now counts)) ⌝ }
+fn put_classes(counts: &[f64], row: &mut [f64])
     requires { ⌜ 6 ≤ length (now row) ⌝ }
-    ensures { λ _. ⌜ now (row .exit) ≡ map number (classSums (now (counts .entry))) ++ drop 6 (now (row .entry)) ⌝ }
+    ensures { λ _. ⌜ now (row .exit) ≡ classSums (now (counts .entry)) ++ drop 6 (now (row .entry)) ⌝ }
 {
-    row[0] = float::u32_to_f64(class_count(counts, &BRANCHED_AA_IDXS));
-    row[1] = float::u32_to_f64(class_count(counts, &TINY_AA_IDXS));
-    row[2] = float::u32_to_f64(class_count(counts, &UNCHARGED_POLAR_AA_IDXS));
-    row[3] = float::u32_to_f64(class_count(counts, &BULKY_AA_IDXS));
-    row[4] = float::u32_to_f64(class_count(counts, &POSITIVE_AA_IDXS));
-    row[5] = float::u32_to_f64(class_count(counts, &NEGATIVE_AA_IDXS));
+    row[0] = class_count(counts, &BRANCHED_AA_IDXS);
+    row[1] = class_count(counts, &TINY_AA_IDXS);
+    row[2] = class_count(counts, &UNCHARGED_POLAR_AA_IDXS);
+    row[3] = class_count(counts, &BULKY_AA_IDXS);
+    row[4] = class_count(counts, &POSITIVE_AA_IDXS);
+    row[5] = class_count(counts, &NEGATIVE_AA_IDXS);
 }
 
 // Writes the columns after the counts.
@@ -90,7 +93,8 @@ pub(crate) fn embed(letters: &[u8], mass: f32, charge: u8, row: &mut [f64])
     ensures { λ _. ⌜ now (row .exit) ≡ mobilityRow (now (letters .entry)) mass charge ++ drop 100 (now (row .entry)) ⌝ }
 {
     let n = letters.len() as u32;
-    let counts = tally(letters);
+    let mut counts = [0.0f64; 22];
+    embed_part(letters, &mut counts);
     put_counts(&counts, &mut row[0..22]);
     put_shares(&counts, n, &mut row[22..44]);
     embed_part(n_terminal(letters), &mut row[44..66]);

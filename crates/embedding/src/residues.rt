@@ -3,50 +3,9 @@ ghost use mathlib.Core.Path.{_≡_};
 ghost use mathlib.Core.List.{_++_, map};
 ghost use Prim.Native.Nat.{_≤_, _<_, _^_, _+_, _-_};
 ghost use lib.ListN.{length, take, drop};
-ghost use Rattle.mass.specs.Mass.{columnOf};
-ghost use Rattle.embedding.specs.Count.{tallied, range};
+ghost use Rattle.matrix.specs.Lists.{overwritten};
 ghost use Rattle.float.specs.Number.{number};
-ghost use Rattle.embedding.specs.Design.{chosen, nTerminal, columnCounts, share};
-
-// How many letters have each column. A column is below 22; the counters from 22 on stay 0.
-pub(crate) fn tally(letters: &[u8]) -> [u32; 26]
-    requires { ⌜ length (now letters) < 2 ^ 32 ⌝ }
-    ensures { λ r. ⌜ r ≡ tallied (range 0 26) (map columnOf (now (letters .entry))) ⌝ }
-{
-    let mut counts = [0u32; 26];
-    let mut i = 0;
-    while i < letters.len() {
-        let k = mass::column(letters[i]);
-        counts[k] += 1;
-        i += 1;
-    }
-    counts
-}
-
-// Writes the counts of the 22 columns into the first cells of `row`.
-pub(crate) fn put_counts(counts: &[u32], row: &mut [f64])
-    requires { ⌜ (22 ≤ length (now counts)) × (22 ≤ length (now row)) ⌝ }
-    ensures { λ _. ⌜ now (row .exit) ≡ map number (take 22 (now (counts .entry))) ++ drop 22 (now (row .entry)) ⌝ }
-{
-    let mut k = 0;
-    while k < 22 {
-        row[k] = float::u32_to_f64(counts[k]);
-        k += 1;
-    }
-}
-
-// Writes the shares of the 22 columns in `length` letters into the first cells of `row`.
-pub(crate) fn put_shares(counts: &[u32], length: u32, row: &mut [f64])
-    requires { ⌜ (22 ≤ lib.ListN.length (now counts)) × (22 ≤ lib.ListN.length (now row)) ⌝ }
-    ensures { λ _. ⌜ now (row .exit) ≡ map (share length) (take 22 (now (counts .entry))) ++ drop 22 (now (row .entry)) ⌝ }
-{
-    let whole = float::u32_to_f64(length);
-    let mut k = 0;
-    while k < 22 {
-        row[k] = float::u32_to_f64(counts[k]) / whole;
-        k += 1;
-    }
-}
+ghost use Rattle.embedding.specs.Design.{chosen, nTerminal, columnCounts, shareOf};
 
 // Writes how many letters of a part have each of the 22 columns into the first cells of `row`.
 pub(crate) fn embed_part(part: &[u8], row: &mut [f64])
@@ -60,6 +19,31 @@ pub(crate) fn embed_part(part: &[u8], row: &mut [f64])
         let k = mass::column(part[i]);
         row[k] = row[k] + 1.0;
         i += 1;
+    }
+}
+
+// Copies the counts into the first cells of `row`.
+pub(crate) fn put_counts(counts: &[f64], row: &mut [f64])
+    requires { ⌜ length (now counts) ≤ length (now row) ⌝ }
+    ensures { λ _. ⌜ now (row .exit) ≡ overwritten (now (counts .entry)) (now (row .entry)) ⌝ }
+{
+    let mut k = 0;
+    while k < counts.len() {
+        row[k] = counts[k];
+        k += 1;
+    }
+}
+
+// Writes the counts' shares of `length` letters into the first cells of `row`.
+pub(crate) fn put_shares(counts: &[f64], length: u32, row: &mut [f64])
+    requires { ⌜ lib.ListN.length (now counts) ≤ lib.ListN.length (now row) ⌝ }
+    ensures { λ _. ⌜ now (row .exit) ≡ overwritten (map (shareOf length) (now (counts .entry))) (now (row .entry)) ⌝ }
+{
+    let whole = float::u32_to_f64(length);
+    let mut k = 0;
+    while k < counts.len() {
+        row[k] = counts[k] / whole;
+        k += 1;
     }
 }
 

@@ -1,23 +1,25 @@
--- `embedding::residues::put_shares` meets its contract. The loop's invariant: the first k cells are made from the first k counts, the others as they
+-- `embedding::residues::put_shares` meets its contract. The loop's invariant: the first k cells are the shares of the first k counts, the others as they
 -- were. Assumes nothing.
-use mathlib.Core.Path.{_≡_, refl, _∙_}
-use mathlib.Core.List.{_++_, map}
-use Prim.Native.Nat.{_≤_, _-_, _<_}
+use mathlib.Core.Path.{_≡_, refl, sym, _∙_}
+use mathlib.Core.List.{List, _++_, map}
+use Prim.Native.Nat.{_≤_, _-_}
 use native.Mathlib.Omega.{arith}
 use native.Mathlib.Numerals.{add-one}
-use lib.ListN.{length, take, drop, length-set}
+use lib.Ieee.{Float, nan}
+use lib.ListN.{length, take, drop, length-set, length-map, List·getD-map}
 use borrow.Author.Needs.{needs}
 use denote.Ref.{now}
-use Rattle.embedding.specs.Design.{share}
-use Rattle.embedding.proofs.Rows.{fill-more}
+use Rattle.embedding.specs.Design.{shareOf}
+use Rattle.matrix.proofs.Lists.{overwrite-suc, overwrite-all}
 use Rattle.embedding.proofs.residues.put_shares.Statement.{statement}
 use Rattle.embedding.proofs.residues.put_shares.Tie as tie
 
 abbrev Inv-loop : tie.InvT-loop
-Inv-loop counts length row₀ whole k₀ row k = (k ≤ 22) × (row ≡ map (share length) (take k counts) ++ drop k row₀) × (lib.ListN.length row ≡ lib.ListN.length row₀)
+Inv-loop counts length row₀ whole k₀ row k =
+    (k ≤ lib.ListN.length counts) × (row ≡ take k (map (shareOf length) counts) ++ drop k row₀) × (lib.ListN.length row ≡ lib.ListN.length row₀)
 
 abbrev μ-loop : tie.MeasureT-loop
-μ-loop counts length row₀ whole k₀ row k = 22 - k
+μ-loop counts length row₀ whole k₀ row k = lib.ListN.length counts - k
 
 u32-to-f64-requires : tie.Need-u32-to-f64-requires Inv-loop μ-loop
 u32-to-f64-requires c κs = search needs
@@ -25,17 +27,14 @@ u32-to-f64-requires c κs = search needs
 loop-holds : tie.Need-loop-holds Inv-loop μ-loop
 loop-holds c = (search needs, refl, refl)
 
-mul-u32-to-f64 : tie.Need-mul-u32-to-f64 Inv-loop μ-loop
-mul-u32-to-f64 c = search needs
-
-shared-slice-read-u32-to-f64 : tie.Need-shared-slice-read-u32-to-f64 Inv-loop μ-loop
-shared-slice-read-u32-to-f64 c = search needs
-
-u32-to-f64-requires-2 : tie.Need-u32-to-f64-requires-2 Inv-loop μ-loop
-u32-to-f64-requires-2 c κs = search needs
-
 mul-row : tie.Need-mul-row Inv-loop μ-loop
 mul-row c = search needs
+
+shared-slice-read-row : tie.Need-shared-slice-read-row Inv-loop μ-loop
+shared-slice-read-row c = search needs
+
+mul-row-2 : tie.Need-mul-row-2 Inv-loop μ-loop
+mul-row-2 c = search needs
 
 slice-write-row : tie.Need-slice-write-row Inv-loop μ-loop
 slice-write-row c = search needs
@@ -48,17 +47,27 @@ loop-less c = search needs
 
 loop-again : tie.Need-loop-again Inv-loop μ-loop
 loop-again c =
-    let l = c .before .before .before in
-    let a = l .before .before .before .before in
-    let h : l .loop .k < length (now (a .args .counts)) = omega arith in
-    let r : l .loop .k < length (now (a .args .row)) = omega arith in
-    (omega arith, rw (l .loop .inv .1, c .u32-to-f642 .ensures, l .before .u32-to-f64 .ensures, add-one) (fill-more (share (a .args .length)) _ _ _ 0 h r), simp length-set (l .loop .inv .2))
+    let l = c .before .before .loop in
+    let a = c .before .before .before .before .before .before .args in
+    let cs : List Float = now (a .counts) in
+    let new : List Float = map (shareOf (a .length)) cs in
+    let n : length new ≡ length cs = length-map cs (shareOf (a .length)) in (
+      omega arith,
+      rw (l .inv .1, c .before .before .before .u32-to-f64 .ensures, add-one, ← List·getD-map (shareOf (a .length)) cs (l .k) nan)
+          (overwrite-suc new (now (a .row)) (l .k) (shareOf (a .length) nan) (omega arith) (omega arith)),
+      simp length-set (l .inv .2),
+    )
 
 same-length : tie.Need-same-length Inv-loop μ-loop
 same-length c = search needs
 
 returns : tie.Need-returns Inv-loop μ-loop
-returns c = let l = c .before in let e : l .loop .k ≡ 22 = omega arith in l .loop .inv .1 ∙ rw e
+returns c =
+    let l = c .before .loop in
+    let a = c .before .before .before .before .before .args in
+    let new : List Float = map (shareOf (a .length)) (now (a .counts)) in
+    let n : length new ≡ length (now (a .counts)) = length-map (now (a .counts)) (shareOf (a .length)) in
+    l .inv .1 ∙ overwrite-all new (now (a .row)) (l .k) (omega arith)
 
 pub put-shares-spec : {M : Type 1} → statement M
 put-shares-spec =
@@ -68,10 +77,9 @@ put-shares-spec =
     μ-loop
     u32-to-f64-requires
     loop-holds
-    mul-u32-to-f64
-    shared-slice-read-u32-to-f64
-    u32-to-f64-requires-2
     mul-row
+    shared-slice-read-row
+    mul-row-2
     slice-write-row
     add-k
     loop-less
