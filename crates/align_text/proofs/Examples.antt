@@ -16,7 +16,7 @@ use Rattle.rt_matrix.specs.Line as RL
 use Rattle.matrix.specs.Lists.{tabulate}
 use Rattle.rt_matrix.specs.Line.{share, present, mean, keptRows, pointOf, points, finiteOr, line, lines}
 use Rattle.retention_alignment.specs.Observation.{observations, maxRt, maxRts, times, smaller, minRt, minRts}
-use Rattle.retention_alignment.specs.Alignments.{alignments, alignedBy, aligned}
+use Rattle.retention_alignment.specs.Alignments.{alignments, onLine, aligned}
 use Rattle.align_input.specs.Parse.{rowRead, rowsFrom, rowsOf, headRead, parse}
 use Rattle.align_output.specs.Output.{statusText, floatLine, fileText, filesText, alignedText, acceptedText}
 use Rattle.align_text.specs.AlignText.{columnsOf, alignmentText, columnsText, inputText, alignText}
@@ -49,5 +49,5 @@ tests =
     ∷ []
 
 pub examples : map (λ (t : List ℕ × List ℕ). alignText (t .0)) tests ≡ map (λ (t : List ℕ × List ℕ). t .1) tests
-unfolding alignText inputText columnsText alignmentText columnsOf acceptedText filesText fileText alignedText floatLine statusText flatten headD decimalOf decimalOnto hexOf hexDigit toBits nanBits parse headRead rowsOf rowsFrom rowRead decimalLine signedLine hexLine firstLine keyed lineOf startsWith readDecimal readFrom isDigit readSigned negative nonNegative readHexDigits readHex digitValue allHex hexValue every observations maxRt maxRts times smaller minRt minRts alignments alignedBy aligned mask kept trains ceiling minimum tabulate lines line RL.lineOf share present mean keptRows pointOf points finiteOr isFinite isNormal narrowed round add sub mul div lt le eq ofInt toUnsigned ofBits zipWith
+unfolding alignText inputText columnsText alignmentText columnsOf acceptedText filesText fileText alignedText floatLine statusText flatten headD decimalOf decimalOnto hexOf hexDigit toBits nanBits parse headRead rowsOf rowsFrom rowRead decimalLine signedLine hexLine firstLine keyed lineOf startsWith readDecimal readFrom isDigit readSigned negative nonNegative readHexDigits readHex digitValue allHex hexValue every observations maxRt maxRts times smaller minRt minRts alignments onLine aligned mask kept trains ceiling minimum tabulate lines line RL.lineOf share present mean keptRows pointOf points finiteOr isFinite isNormal narrowed round add sub mul div lt le eq ofInt toUnsigned ofBits zipWith
 examples = refl

@@ -1,6 +1,5 @@
 // A row finds its file's record in a list of records: one lookup, and a row's aligned time by it.
-ghost use mathlib.Core.Path.{_≡_};
-ghost use Rattle.records.specs.Record.{recordOf, timeBy};
+ghost use Rattle.records.specs.Record.{LookupCall, TimeByCall, AlignedCall};
 use matrix::FileIx;
 pub use retention_alignment::Alignment;
 
@@ -18,7 +17,7 @@ pub enum AlignedTime {
 
 // The record of a file; BAD_FILE where the list ends before it.
 pub fn record_of(records: &[Alignment], file: u32) -> Found
-    ensures { λ r. ⌜ r ≡ recordOf (now (records .entry)) file ⌝ }
+    ensures { λ r. ⌜ LookupCall (now (records .entry)) file r ⌝ }
 {
     let f = FileIx(file);
     let i = f.0 as usize;
@@ -31,17 +30,22 @@ pub fn record_of(records: &[Alignment], file: u32) -> Found
 
 // A time by what a lookup found.
 pub fn time_by(found: Found, rt: f32) -> AlignedTime
-    ensures { λ r. ⌜ r ≡ timeBy found rt ⌝ }
+    ensures { λ r. ⌜ TimeByCall found rt r ⌝ }
 {
     match found {
-        Found::At(a) => AlignedTime::At(retention_alignment::aligned_time(a, rt)),
+        Found::At(a) => AlignedTime::At(retention_alignment::aligned_time(
+            a.max_rt,
+            a.slope,
+            a.intercept,
+            rt,
+        )),
         Found::Refused(status) => AlignedTime::Refused(status),
     }
 }
 
 // The aligned time of a row with this file and this time, by the record that the list has for the file.
 pub fn aligned(records: &[Alignment], file: u32, rt: f32) -> AlignedTime
-    ensures { λ r. ⌜ r ≡ timeBy (recordOf (now (records .entry)) file) rt ⌝ }
+    ensures { λ r. ⌜ AlignedCall (now (records .entry)) file rt r ⌝ }
 {
     time_by(record_of(records, file), rt)
 }

@@ -11,9 +11,13 @@ use Rattle.retention_alignment.specs.Observation.{Obs, minRts}
 unfoldable pub alignments : (files peptides : ℕ) → (maxRts : List ℕ) → (training : List Obs) → List Alignment
 alignments files peptides maxRts training = lines maxRts (minRts files peptides training)
 
--- a time by a record, each operation rounded in f32
-unfoldable pub alignedBy : Alignment → Float → Float
-alignedBy a t = add binary32 (mul binary32 (div binary32 t (a .«max_rt»)) (a .slope)) (a .intercept)
+-- a time by the three numbers of a record, each operation rounded in f32
+unfoldable pub onLine : (maxRt slope intercept t : Float) → Float
+onLine maxRt slope intercept t = add binary32 (mul binary32 (div binary32 t maxRt) slope) intercept
+
+-- a time by a record
+abbrev pub alignedBy : Alignment → Float → Float
+alignedBy a t = onLine (a .«max_rt») (a .slope) (a .intercept) t
 
 -- what stands for a file that has no record: no accepted row has such a file
 abbrev pub noAlignment : Alignment

@@ -8,7 +8,7 @@ ghost use lib.ListN.{length};
 ghost use Rattle.feature.specs.Checks.{allBelow};
 ghost use Rattle.rt_matrix.specs.Cells.{recordsOf};
 ghost use Rattle.retention_alignment.specs.Observation.{observations};
-ghost use Rattle.retention_alignment.specs.Alignments.{alignedBy, aligned};
+ghost use Rattle.retention_alignment.specs.Alignments.{onLine, aligned};
 ghost use Rattle.retention_alignment.specs.Call.{longEnough, statusOf, Checked, Written, Aligned};
 
 mod times;
@@ -23,11 +23,11 @@ pub enum AlignAnswer {
     Refused(u8),
 }
 
-// A time by a file's record, each operation rounded in f32.
-pub fn aligned_time(a: Alignment, rt: f32) -> f32
-    ensures { λ r. ⌜ r ≡ alignedBy a rt ⌝ }
+// A time by the three numbers of a file's record, each operation rounded in f32.
+pub fn aligned_time(max_rt: f32, slope: f32, intercept: f32, rt: f32) -> f32
+    ensures { λ r. ⌜ r ≡ onLine «max_rt» slope intercept rt ⌝ }
 {
-    float::canonical32(rt / a.max_rt * a.slope + a.intercept)
+    float::canonical32(rt / max_rt * slope + intercept)
 }
 
 // Writes each row's aligned time, by its file's record.
@@ -46,14 +46,7 @@ fn align_rows(
     while i < file.len() {
         let f = FileIx(file[i]);
         let k = f.0 as usize;
-        aligned[i] = aligned_time(
-            Alignment {
-                max_rt: max_rt[k],
-                slope: slope[k],
-                intercept: intercept[k],
-            },
-            rt[i],
-        );
+        aligned[i] = aligned_time(max_rt[k], slope[k], intercept[k], rt[i]);
         i += 1;
     }
 }

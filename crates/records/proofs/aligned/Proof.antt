@@ -1,7 +1,7 @@
 -- `records::aligned` meets its contract: a walk of its MIR, by hand. What `record_of` finds is held in a local and passed to `time_by`. All that
 -- the proof knows of the two is that each meets its contract. A `&[Alignment]` is Copy, so what it owns is had twice: once for the call, and once
 -- for the exit.
-use mathlib.Core.Path.{_≡_, refl, ap, _∙_}
+use mathlib.Core.Path.{_≡_, refl}
 use mathlib.Core.Bool.{true}
 use Prim.Native.Nat.{ℕ, _<_, _^_}
 use mathlib.Core.List.{List, [], _∷_}
@@ -40,7 +40,7 @@ use denote.Triple.Walked.{says, Stays, stay-none, stay-none-slice, walkOf, goes-
 use denote.Exit.{yes}
 use denote.Triple.Clauses.{ensured, lasts}
 use Rattle.rt_matrix.specs.declared.Alignment.{Alignment}
-use Rattle.records.specs.Record.{recordOf, timeBy}
+use Rattle.records.specs.Record.{LookupCall, TimeByCall, AlignedCall}
 use Rattle.records.specs.declared.AlignedTime.{AlignedTime}
 use Rattle.records.specs.declared.Found.{Found}
 use Rattle.rt_matrix.proofs.Alignment as T
@@ -48,6 +48,7 @@ use Rattle.records.proofs.AlignedTime as R
 use Rattle.records.proofs.AlignedTime.Laws as R′
 use Rattle.records.proofs.Found as S
 use Rattle.records.proofs.Found.Laws as S′
+use Rattle.records.proofs.Calls.{looked-up-and-timed}
 use Rattle.records.proofs.record_of as record-of
 use Rattle.records.proofs.record_of.Symbol as record-of-def
 use Rattle.records.proofs.record_of.Symbol.{name as #records·record-of}
@@ -106,8 +107,8 @@ module _ {M : Type 1} (𝓤 : URA M) (H : Heap 𝓤) (A : Atoms 𝓤) (W : Given
       nothing ! $ owned ! u32 (Is u32) (uint-makes 𝓤 H A W w32) i _ (refl, i-fits) $ fjoin ! $ move ! (1 ∷ 0 ∷ []) $ fjoin ! $ move ! (2 ∷ 0 ∷ []) $
       use2 W (raw (RecordOf 𝓤 H A mem run .pre to-record)) (qed W ((‵ (flft κ q) ⊛ ‵ ftrue) ∷ ‵ (owns (ShrSlice (named 0) κ T.the-row ∷ u32 ∷ []) (s, (i, tt)) passed) ∷ []) ∵ join ! $ frame ! $ done !) $ frame ! $ done !
 
-  record-said : (r : Found) → ent 𝓤 (ensured 𝓤 H A record-of.ended (record-of.clauses 𝓤 H A mem run) (κ, tt) (s, (i, tt)) tt r) (fact 𝓤 (r ≡ recordOf (now s) i))
-  record-said r = exE 𝓤 _ (λ ws. snd∗ 𝓤 (sem 𝓤 H A (lasts record-of.ended (κ, tt) (s, (i, tt)) ws)) (fact 𝓤 (r ≡ recordOf (now s) i)))
+  record-said : (r : Found) → ent 𝓤 (ensured 𝓤 H A record-of.ended (record-of.clauses 𝓤 H A mem run) (κ, tt) (s, (i, tt)) tt r) (fact 𝓤 (LookupCall (now s) i r))
+  record-said r = exE 𝓤 _ (λ ws. snd∗ 𝓤 (sem 𝓤 H A (lasts record-of.ended (κ, tt) (s, (i, tt)) ws)) (fact 𝓤 (LookupCall (now s) i r)))
 
   -- the call of `time_by`, at what was found
   abbrev to-time : Found → Val → TimeBy 𝓤 H A mem run .Ghost
@@ -116,10 +117,10 @@ module _ {M : Type 1} (𝓤 : URA M) (H : Heap 𝓤) (A : Atoms 𝓤) (W : Given
   goes-time : (r : Found) (u : Val) → ent 𝓤 (sem 𝓤 H A (S.the-row .own r (u ∷ []))) (TimeBy 𝓤 H A mem run .pre (to-time r u))
   goes-time r u = qed W (‵ (S.the-row .own r (u ∷ [])) ∷ []) ∵ nothing ! $ owned ! f32 (Is f32) (float-makes 𝓤 H A W binary32) rt _ (refl, rt-fits) $ fjoin ! $ move ! (1 ∷ 0 ∷ []) $ fjoin ! $ nothing ! $ join ! $ frame ! $ done !
 
-  time-said : (r : Found) (y : AlignedTime) → ent 𝓤 (ensured 𝓤 H A time-by.ended (time-by.clauses 𝓤 H A mem run) tt (r, (rt, tt)) tt y) (fact 𝓤 (y ≡ timeBy r rt))
-  time-said r y = exE 𝓤 _ (λ ws. snd∗ 𝓤 (sem 𝓤 H A (lasts time-by.ended tt (r, (rt, tt)) ws)) (fact 𝓤 (y ≡ timeBy r rt)))
+  time-said : (r : Found) (y : AlignedTime) → ent 𝓤 (ensured 𝓤 H A time-by.ended (time-by.clauses 𝓤 H A mem run) tt (r, (rt, tt)) tt y) (fact 𝓤 (TimeByCall r rt y))
+  time-said r y = exE 𝓤 _ (λ ws. snd∗ 𝓤 (sem 𝓤 H A (lasts time-by.ended tt (r, (rt, tt)) ws)) (fact 𝓤 (TimeByCall r rt y)))
 
-  exits : (y : AlignedTime) (u : Val) → y ≡ timeBy (recordOf (now s) i) rt → ent 𝓤 (⋆ 𝓤 H A (‵ (R.the-row .own y (u ∷ [])) ∷ (‵ (flft κ q) ⊛ ‵ ftrue) ∷ ‵ Own ∷ [])) (Post u)
+  exits : (y : AlignedTime) (u : Val) → AlignedCall (now s) i rt y → ent 𝓤 (⋆ 𝓤 H A (‵ (R.the-row .own y (u ∷ [])) ∷ (‵ (flft κ q) ⊛ ‵ ftrue) ∷ ‵ Own ∷ [])) (Post u)
   exits y u e =
       qed W (‵ (R.the-row .own y (u ∷ [])) ∷ (‵ (flft κ q) ⊛ ‵ ftrue) ∷ ‵ Own ∷ []) ∵
       suffices ! _ (ends-at 𝓤 H A f.ended stayed (f.clauses 𝓤 H A mem run) W (((κ, tt), (q, tt), tt, x, at), tt) u y (tt, (tt, (tt, tt))) (tt, (tt, (tt, tt)))) $ says ! e $
@@ -136,20 +137,20 @@ module _ {M : Type 1} (𝓤 : URA M) (H : Heap 𝓤) (A : Atoms 𝓤) (W : Given
         move ! (10 ∷ []) $ use1 W (raw (RecordOf 𝓤 H A mem run .pre to-record) ⊛ ‵ Own) goes-record $ split ! $
         calls-at ! fm (RecordOf 𝓤 H A mem run) known-record to-record (and-then ! (load ! (from ! (stop !)) (look ! 8 refl)) (and-then ! (load ! (from ! (stop !)) (look ! 6 refl)) (no-more !))) (λ u.
         use1 W (later (some (λ (r : Found). ((‵ (flft κ q) ⊛ ‵ ftrue) ⊛ ‵ (S.the-row .own r (u ∷ []))) ⊛ raw (ensured 𝓤 H A record-of.ended (record-of.clauses 𝓤 H A mem run) (κ, tt) (s, (i, tt)) tt r)))) (id⊢ 𝓤 _) $ await ! tt $ pick ! (λ r.
-        split ! $ move ! (1 ∷ []) $ use1 W (raw (fact 𝓤 (r ≡ recordOf (now s) i))) (record-said r) $ heard ! (r ≡ recordOf (now s) i) (λ e. split ! $ move ! (1 ∷ []) $
+        split ! $ move ! (1 ∷ []) $ use1 W (raw (fact 𝓤 (LookupCall (now s) i r))) (record-said r) $ heard ! (LookupCall (now s) i r) (λ e. split ! $ move ! (1 ∷ []) $
         -- [what was found; the token; what s owns; room for _4; …; _3; …; _2; …; _1; …; room for _0; …]
         peeks ! S.the-row (Is S.the-row) (shows 𝓤 H A S.the-row) r (u ∷ []) (λ is.
         land ! (from ! (stop !)) (init ! 3 refl (EL.lawful S.the-type S′.the-laws 𝓤 H A W tt .typed r _ is .0)) $
         use1 W (raw (TimeBy 𝓤 H A mem run .pre (to-time r u))) (goes-time r u) $
         calls-at ! fm (TimeBy 𝓤 H A mem run) known-time (to-time r u) (and-then ! (load ! (from ! (stop !)) (look ! 3 refl)) (and-then ! (load ! (from ! (stop !)) (look ! 5 refl)) (no-more !))) (λ u′.
         use1 W (later (some (λ (y : AlignedTime). (‵ ftrue ⊛ ‵ (R.the-row .own y (u′ ∷ []))) ⊛ raw (ensured 𝓤 H A time-by.ended (time-by.clauses 𝓤 H A mem run) tt (r, (rt, tt)) tt y)))) (id⊢ 𝓤 _) $ await ! tt $ pick ! (λ y.
-        split ! $ move ! (1 ∷ []) $ use1 W (raw (fact 𝓤 (y ≡ timeBy r rt))) (time-said r y) $ heard ! (y ≡ timeBy r rt) (λ e′. split ! $ drop ! $
+        split ! $ move ! (1 ∷ []) $ use1 W (raw (fact 𝓤 (TimeByCall r rt y))) (time-said r y) $ heard ! (TimeByCall r rt y) (λ e′. split ! $ drop ! $
         -- [the result; the token; what s owns; _4; …; _3; …; _2; …; _1; …; room for _0; …]
         peeks ! R.the-row (Is R.the-row) (shows 𝓤 H A R.the-row) y (u′ ∷ []) (λ is′.
         land ! (from ! (stop !)) (init ! 11 refl (EL.lawful R.the-type R′.the-laws 𝓤 H A W tt .typed y _ is′ .0)) $
         returns ! (look ! 11 refl) $ forget ! 3 refl $ forget ! 5 refl $ forget ! 7 refl $ forget ! 9 refl $ forget ! 11 refl $
         move ! (11 ∷ 12 ∷ []) $ free1 ! $ move ! (9 ∷ 10 ∷ []) $ free1 ! $ move ! (7 ∷ 8 ∷ []) $ free1 ! $ move ! (5 ∷ 6 ∷ []) $ free1 ! $ move ! (3 ∷ 4 ∷ []) $ free1 ! $ free0 ! $
-        by ! (exits y u′ (e′ ∙ ap (λ (g : Found). timeBy g rt) e)))))))))))))))
+        by ! (exits y u′ (looked-up-and-timed (now s) i rt r y e e′)))))))))))))))
 
 module _ {M : Type 1} (𝓤 : URA M) (H : Heap 𝓤) (A : Atoms 𝓤) (W : Given 𝓤 H A) (mem : Memory → SProp 𝓤) (run : Routine → Fun 𝓤) where
   aligned-walks : (C : Calls 𝓤 H) (Λ : Loops 𝓤 H) → FmC 𝓤 H (W .laws) C → Triple 𝓤 (C #records·record-of) (RecordOf 𝓤 H A mem run) → Triple 𝓤 (C #records·time-by) (TimeBy 𝓤 H A mem run)

@@ -1,14 +1,14 @@
 -- `retention_alignment::align_rows` meets its contract. The loop's invariant: the first i rows' times are written (`upTo i`), and the length is as
 -- it was. Assumes nothing.
-use mathlib.Core.Path.{_≡_, refl, sym, ap, ap₂, _∙_}
+use mathlib.Core.Path.{_≡_, refl, sym, ap, _∙_}
 use mathlib.Core.List.{List, map}
-use Prim.Native.Nat.{ℕ, _+_, _-_, _*_, _≤_, _<_}
+use Prim.Native.Nat.{ℕ, _-_, _*_, _≤_, _<_}
 use native.Mathlib.Omega.{arith}
 use borrow.Author.Needs.{needs, scaled-fits}
 use mir.Syntax.{w64}
 use mir.Val.{Fits}
 use denote.Ref.{now}
-use lib.ListN.{length, getD, set, length-set, length-map, List·getD-map}
+use lib.ListN.{length, getD, length-set, length-map, List·getD-map}
 use lib.Ieee.{Float, nan}
 use Rattle.feature.proofs.Laws.{below-at}
 use Rattle.rt_matrix.specs.Cells.{recordsOf}
@@ -64,29 +64,29 @@ shared-slice-read-t13 c = search needs
 cast-k : tie.Need-cast-k Inv-loop μ-loop
 cast-k c = search needs
 
-mul-t10-2 : tie.Need-mul-t10-2 Inv-loop μ-loop
-mul-t10-2 c = scaled (c .before .before)
-
-shared-slice-read-t16 : tie.Need-shared-slice-read-t16 Inv-loop μ-loop
-shared-slice-read-t16 c = file-below (c .before .before .before)
-
-mul-t17 : tie.Need-mul-t17 Inv-loop μ-loop
-mul-t17 c = scaled (c .before .before .before)
-
-shared-slice-read-t19 : tie.Need-shared-slice-read-t19 Inv-loop μ-loop
-shared-slice-read-t19 c = let t = c .before .before .before .before in omega (arith, file-below t, start (t .before) .pre .3)
-
-mul-t20 : tie.Need-mul-t20 Inv-loop μ-loop
-mul-t20 c = scaled (c .before .before .before .before)
-
-shared-slice-read-t22 : tie.Need-shared-slice-read-t22 Inv-loop μ-loop
-shared-slice-read-t22 c = let t = c .before .before .before .before .before in omega (arith, file-below t, start (t .before) .pre .4)
-
 mul-aligned-time : tie.Need-mul-aligned-time Inv-loop μ-loop
-mul-aligned-time c = search needs
+mul-aligned-time c = scaled (c .before .before)
 
 shared-slice-read-aligned-time : tie.Need-shared-slice-read-aligned-time Inv-loop μ-loop
-shared-slice-read-aligned-time c = search needs
+shared-slice-read-aligned-time c = file-below (c .before .before .before)
+
+mul-aligned-time-2 : tie.Need-mul-aligned-time-2 Inv-loop μ-loop
+mul-aligned-time-2 c = scaled (c .before .before .before)
+
+shared-slice-read-aligned-time-2 : tie.Need-shared-slice-read-aligned-time-2 Inv-loop μ-loop
+shared-slice-read-aligned-time-2 c = let t = c .before .before .before .before in omega (arith, file-below t, start (t .before) .pre .3)
+
+mul-aligned-time-3 : tie.Need-mul-aligned-time-3 Inv-loop μ-loop
+mul-aligned-time-3 c = scaled (c .before .before .before .before)
+
+shared-slice-read-aligned-time-3 : tie.Need-shared-slice-read-aligned-time-3 Inv-loop μ-loop
+shared-slice-read-aligned-time-3 c = let t = c .before .before .before .before .before in omega (arith, file-below t, start (t .before) .pre .4)
+
+mul-aligned-time-4 : tie.Need-mul-aligned-time-4 Inv-loop μ-loop
+mul-aligned-time-4 c = search needs
+
+shared-slice-read-aligned-time-4 : tie.Need-shared-slice-read-aligned-time-4 Inv-loop μ-loop
+shared-slice-read-aligned-time-4 c = search needs
 
 aligned-time-requires : tie.Need-aligned-time-requires Inv-loop μ-loop
 aligned-time-requires c κs = search needs
@@ -147,14 +147,14 @@ align-rows-spec =
     mul-t10
     shared-slice-read-t13
     cast-k
-    mul-t10-2
-    shared-slice-read-t16
-    mul-t17
-    shared-slice-read-t19
-    mul-t20
-    shared-slice-read-t22
     mul-aligned-time
     shared-slice-read-aligned-time
+    mul-aligned-time-2
+    shared-slice-read-aligned-time-2
+    mul-aligned-time-3
+    shared-slice-read-aligned-time-3
+    mul-aligned-time-4
+    shared-slice-read-aligned-time-4
     aligned-time-requires
     mul-aligned
     slice-write-aligned

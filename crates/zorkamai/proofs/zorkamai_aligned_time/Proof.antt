@@ -41,7 +41,7 @@ use denote.Triple.Walked.{says, Stays, stay-none, stay-none-slice, walkOf, goes-
 use denote.Exit.{yes}
 use denote.Triple.Clauses.{ensured, lasts}
 use Rattle.rt_matrix.specs.declared.Alignment.{Alignment}
-use Rattle.records.specs.Record.{recordOf, timeBy}
+use Rattle.records.specs.Record.{recordOf, timeBy, AlignedCall}
 use Rattle.records.specs.declared.AlignedTime.{AlignedTime}
 use Rattle.zorkamai.specs.Answers.{ofTime}
 use Rattle.zorkamai.specs.declared.TimeAnswer.{TimeAnswer}
@@ -108,8 +108,8 @@ module _ {M : Type 1} (𝓤 : URA M) (H : Heap 𝓤) (A : Atoms 𝓤) (W : Given
       nothing ! $ owned ! f32 (Is f32) (float-makes 𝓤 H A W binary32) rt _ (refl, rt-fits) $ fjoin ! $ owned ! u32 (Is u32) (uint-makes 𝓤 H A W w32) i _ (refl, i-fits) $ fjoin ! $ move ! (1 ∷ 0 ∷ []) $ fjoin ! $ move ! (2 ∷ 0 ∷ []) $
       use2 W (raw (Aligned 𝓤 H A mem run .pre to-entry)) (qed W ((‵ (flft κ q) ⊛ ‵ ftrue) ∷ ‵ (owns (ShrSlice (named 0) κ T.the-row ∷ u32 ∷ f32 ∷ []) x at) ∷ []) ∵ join ! $ frame ! $ done !) $ frame ! $ done !
 
-  entry-said : (r : AlignedTime) → ent 𝓤 (ensured 𝓤 H A aligned.ended (aligned.clauses 𝓤 H A mem run) (κ, tt) x tt r) (fact 𝓤 (r ≡ found))
-  entry-said r = exE 𝓤 _ (λ ws. snd∗ 𝓤 (sem 𝓤 H A (lasts aligned.ended (κ, tt) x ws)) (fact 𝓤 (r ≡ found)))
+  entry-said : (r : AlignedTime) → ent 𝓤 (ensured 𝓤 H A aligned.ended (aligned.clauses 𝓤 H A mem run) (κ, tt) x tt r) (fact 𝓤 (AlignedCall (now s) i rt r))
+  entry-said r = exE 𝓤 _ (λ ws. snd∗ 𝓤 (sem 𝓤 H A (lasts aligned.ended (κ, tt) x ws)) (fact 𝓤 (AlignedCall (now s) i rt r)))
 
   -- the call of `of_time`, at what that gave
   abbrev to-shown : AlignedTime → Val → Shown 𝓤 H A mem run .Ghost
@@ -138,7 +138,7 @@ module _ {M : Type 1} (𝓤 : URA M) (H : Heap 𝓤) (A : Atoms 𝓤) (W : Given
         move ! (10 ∷ []) $ use1 W (raw (Aligned 𝓤 H A mem run .pre to-entry) ⊛ ‵ Own) goes-entry $ split ! $
         calls-at ! fm (Aligned 𝓤 H A mem run) known-entry to-entry (and-then ! (load ! (from ! (stop !)) (look ! 8 refl)) (and-then ! (load ! (from ! (stop !)) (look ! 6 refl)) (and-then ! (load ! (from ! (stop !)) (look ! 4 refl)) (no-more !)))) (λ u.
         use1 W (later (some (λ (r : AlignedTime). ((‵ (flft κ q) ⊛ ‵ ftrue) ⊛ ‵ (S.the-row .own r (u ∷ []))) ⊛ raw (ensured 𝓤 H A aligned.ended (aligned.clauses 𝓤 H A mem run) (κ, tt) x tt r)))) (id⊢ 𝓤 _) $ await ! tt $ pick ! (λ r.
-        split ! $ move ! (1 ∷ []) $ use1 W (raw (fact 𝓤 (r ≡ found))) (entry-said r) $ heard ! (r ≡ found) (λ e. split ! $ move ! (1 ∷ []) $
+        split ! $ move ! (1 ∷ []) $ use1 W (raw (fact 𝓤 (AlignedCall (now s) i rt r))) (entry-said r) $ heard ! (AlignedCall (now s) i rt r) (λ e. split ! $ move ! (1 ∷ []) $
         -- [what it gave; the token; what s owns; room for _4; …; _3; …; _2; …; _1; …; room for _0; …]
         peeks ! S.the-row (Is S.the-row) (shows 𝓤 H A S.the-row) r (u ∷ []) (λ is.
         land ! (from ! (stop !)) (init ! 3 refl (EL.lawful S.the-type S′.the-laws 𝓤 H A W tt .typed r _ is .0)) $
@@ -151,7 +151,7 @@ module _ {M : Type 1} (𝓤 : URA M) (H : Heap 𝓤) (A : Atoms 𝓤) (W : Given
         land ! (from ! (stop !)) (init ! 11 refl (LL.lawful R.the-type R′.the-laws 𝓤 H A W .typed y _ is′ .0)) $
         returns ! (look ! 11 refl) $ forget ! 3 refl $ forget ! 5 refl $ forget ! 7 refl $ forget ! 9 refl $ forget ! 11 refl $
         move ! (11 ∷ 12 ∷ []) $ free1 ! $ move ! (9 ∷ 10 ∷ []) $ free1 ! $ move ! (7 ∷ 8 ∷ []) $ free1 ! $ move ! (5 ∷ 6 ∷ []) $ free1 ! $ move ! (3 ∷ 4 ∷ []) $ free1 ! $ free0 ! $
-        by ! (exits y u′ (e′ ∙ ap ofTime e)))))))))))))))
+        by ! (exits y u′ (e′ ∙ ap ofTime (e .answer))))))))))))))))
 
 module _ {M : Type 1} (𝓤 : URA M) (H : Heap 𝓤) (A : Atoms 𝓤) (W : Given 𝓤 H A) (mem : Memory → SProp 𝓤) (run : Routine → Fun 𝓤) where
   walks : (C : Calls 𝓤 H) (Λ : Loops 𝓤 H) → FmC 𝓤 H (W .laws) C → Triple 𝓤 (C #records·aligned) (Aligned 𝓤 H A mem run) → Triple 𝓤 (C #zorkamai·answers·of-time) (Shown 𝓤 H A mem run)

@@ -38,7 +38,7 @@ use denote.Triple.Walked.{says, Stays, stay-none, stay-none-slice, walkOf, goes-
 use denote.Exit.{yes}
 use denote.Triple.Clauses.{ensured, lasts}
 use Rattle.rt_matrix.specs.declared.Alignment.{Alignment}
-use Rattle.records.specs.Record.{recordOf}
+use Rattle.records.specs.Record.{recordOf, LookupCall}
 use Rattle.records.specs.declared.Found.{Found}
 use Rattle.zorkamai.specs.Answers.{ofFound}
 use Rattle.zorkamai.specs.declared.RecordAnswer.{RecordAnswer}
@@ -105,8 +105,8 @@ module _ {M : Type 1} (𝓤 : URA M) (H : Heap 𝓤) (A : Atoms 𝓤) (W : Given
       nothing ! $ owned ! u32 (Is u32) (uint-makes 𝓤 H A W w32) i _ (refl, i-fits) $ fjoin ! $ move ! (1 ∷ 0 ∷ []) $ fjoin ! $ move ! (2 ∷ 0 ∷ []) $
       use2 W (raw (RecordOf 𝓤 H A mem run .pre to-entry)) (qed W ((‵ (flft κ q) ⊛ ‵ ftrue) ∷ ‵ (owns (ShrSlice (named 0) κ T.the-row ∷ u32 ∷ []) x at) ∷ []) ∵ join ! $ frame ! $ done !) $ frame ! $ done !
 
-  entry-said : (r : Found) → ent 𝓤 (ensured 𝓤 H A record-of.ended (record-of.clauses 𝓤 H A mem run) (κ, tt) x tt r) (fact 𝓤 (r ≡ found))
-  entry-said r = exE 𝓤 _ (λ ws. snd∗ 𝓤 (sem 𝓤 H A (lasts record-of.ended (κ, tt) x ws)) (fact 𝓤 (r ≡ found)))
+  entry-said : (r : Found) → ent 𝓤 (ensured 𝓤 H A record-of.ended (record-of.clauses 𝓤 H A mem run) (κ, tt) x tt r) (fact 𝓤 (LookupCall (now s) i r))
+  entry-said r = exE 𝓤 _ (λ ws. snd∗ 𝓤 (sem 𝓤 H A (lasts record-of.ended (κ, tt) x ws)) (fact 𝓤 (LookupCall (now s) i r)))
 
   -- the call of `of_found`, at what that gave
   abbrev to-shown : Found → Val → Shown 𝓤 H A mem run .Ghost
@@ -135,7 +135,7 @@ module _ {M : Type 1} (𝓤 : URA M) (H : Heap 𝓤) (A : Atoms 𝓤) (W : Given
         move ! (8 ∷ []) $ use1 W (raw (RecordOf 𝓤 H A mem run .pre to-entry) ⊛ ‵ Own) goes-entry $ split ! $
         calls-at ! fm (RecordOf 𝓤 H A mem run) known-entry to-entry (and-then ! (load ! (from ! (stop !)) (look ! 6 refl)) (and-then ! (load ! (from ! (stop !)) (look ! 4 refl)) (no-more !))) (λ u.
         use1 W (later (some (λ (r : Found). ((‵ (flft κ q) ⊛ ‵ ftrue) ⊛ ‵ (S.the-row .own r (u ∷ []))) ⊛ raw (ensured 𝓤 H A record-of.ended (record-of.clauses 𝓤 H A mem run) (κ, tt) x tt r)))) (id⊢ 𝓤 _) $ await ! tt $ pick ! (λ r.
-        split ! $ move ! (1 ∷ []) $ use1 W (raw (fact 𝓤 (r ≡ found))) (entry-said r) $ heard ! (r ≡ found) (λ e. split ! $ move ! (1 ∷ []) $
+        split ! $ move ! (1 ∷ []) $ use1 W (raw (fact 𝓤 (LookupCall (now s) i r))) (entry-said r) $ heard ! (LookupCall (now s) i r) (λ e. split ! $ move ! (1 ∷ []) $
         -- [what it gave; the token; what s owns; room for _3; …; _2; …; _1; …; room for _0; …]
         peeks ! S.the-row (Is S.the-row) (shows 𝓤 H A S.the-row) r (u ∷ []) (λ is.
         land ! (from ! (stop !)) (init ! 3 refl (EL.lawful S.the-type S′.the-laws 𝓤 H A W tt .typed r _ is .0)) $
@@ -148,7 +148,7 @@ module _ {M : Type 1} (𝓤 : URA M) (H : Heap 𝓤) (A : Atoms 𝓤) (W : Given
         land ! (from ! (stop !)) (init ! 9 refl (LL.lawful R.the-type R′.the-laws 𝓤 H A W .typed y _ is′ .0)) $
         returns ! (look ! 9 refl) $ forget ! 3 refl $ forget ! 5 refl $ forget ! 7 refl $ forget ! 9 refl $
         move ! (9 ∷ 10 ∷ []) $ free1 ! $ move ! (7 ∷ 8 ∷ []) $ free1 ! $ move ! (5 ∷ 6 ∷ []) $ free1 ! $ move ! (3 ∷ 4 ∷ []) $ free1 ! $ free0 ! $
-        by ! (exits y u′ (e′ ∙ ap ofFound e))))))))))))))
+        by ! (exits y u′ (e′ ∙ ap ofFound (e .answer)))))))))))))))
 
 module _ {M : Type 1} (𝓤 : URA M) (H : Heap 𝓤) (A : Atoms 𝓤) (W : Given 𝓤 H A) (mem : Memory → SProp 𝓤) (run : Routine → Fun 𝓤) where
   walks : (C : Calls 𝓤 H) (Λ : Loops 𝓤 H) → FmC 𝓤 H (W .laws) C → Triple 𝓤 (C #records·record-of) (RecordOf 𝓤 H A mem run) → Triple 𝓤 (C #zorkamai·answers·of-found) (Shown 𝓤 H A mem run)
