@@ -1,10 +1,10 @@
 -- What the functions of the fit are passed and leave. Definitions only.
 use mathlib.Core.Path.{_≡_}
-use mathlib.Core.Bool.{true}
-use mathlib.Core.List.{List}
-use Prim.Native.Nat.{ℕ, _≤_, _<_}
+use mathlib.Core.Bool.{Bool, true, false}
+use mathlib.Core.List.{List, [], _∷_, _++_}
+use Prim.Native.Nat.{ℕ, _+_, _≤_, _<_}
 use lib.Ieee.{Float}
-use lib.ListN.{length, replicate}
+use lib.ListN.{length, replicate, take}
 use Rattle.float.specs.Number.{zero64}
 use Rattle.matrix.specs.Rows.{flat}
 use Rattle.matrix.specs.Lists.{overwritten}
@@ -12,7 +12,7 @@ use Rattle.feature.specs.Checks.{allBelow, maxRows}
 use Rattle.peptide.specs.Table.{Table, HasPeptide, offsetsRight}
 use Rattle.embedding.specs.Design.{orderOf}
 use Rattle.embedding.specs.declared.Model.{Model}
-use Rattle.regression.specs.Regression.{Fit, normal, sumsOf}
+use Rattle.regression.specs.Regression.{Fit, Sample, extended, normal, sumsOf}
 use Rattle.regression.specs.declared.Sums.{Sums}
 use Rattle.regression.specs.declared.FitOutcome.{FitOutcome}
 use Rattle.regression.specs.declared.FitOutcome.the-variants.{Solved}
@@ -36,6 +36,20 @@ pub record Checked (i : Input) : Type 0 where
   pub observed-long : length (i .observed) ≡ length (i .peptides)
   pub rows-max : length (i .peptides) ≤ maxRows
   pub numbered : Numbered (i .table) (i .peptides)
+
+-- the normal equations of all samples but the last, which is held back in a row
+pub record HeldBack (D : ℕ) (row equations : List Float) (ss : List Sample) : Type 0 where
+  pub earlier : List Sample
+  pub last : Sample
+  pub all : ss ≡ earlier ++ last ∷ []
+  pub summed : equations ≡ flat (normal D earlier)
+  pub held : take (D + 1) row ≡ extended last
+  pub wide : length (last .row) ≡ D
+
+-- the normal equations of some samples, with the last one summed or held back
+abbrev pub Summed : ℕ → (held : Bool) → (row equations : List Float) → List Sample → Type 0
+Summed D false row equations ss = equations ≡ flat (normal D ss)
+Summed D true row equations ss = HeldBack D row equations ss
 
 -- the normal equations and the sums of the training rows
 pub record Accumulated (model : Model) (i : Input) (acc : List Float) (r : Sums) : Type 0 where

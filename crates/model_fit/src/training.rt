@@ -1,19 +1,20 @@
 // The fit: one pass over the training rows for the normal equations, the solver, and one pass for the squared errors.
 ghost use mathlib.Core.Path.{_≡_};
+ghost use mathlib.Core.Bool.{not};
 ghost use mathlib.Core.List.{List, [], _∷_, _++_};
-ghost use Prim.Native.Nat.{_<_, _≤_};
+ghost use Prim.Native.Nat.{_+_, _<_, _≤_};
 ghost use lib.IntN.{pos};
 ghost use lib.Ieee.{nan, binary64, sub};
-ghost use lib.ListN.{length, getD, replicate};
+ghost use lib.ListN.{length, getD, replicate, take};
 ghost use Rattle.float.specs.Number.{zero64};
 ghost use Rattle.matrix.specs.Rows.{flat};
 ghost use Rattle.feature.specs.Feature.{trains};
 ghost use Rattle.embedding.specs.Design.{orderOf};
-ghost use Rattle.regression.specs.Regression.{Sample, normal, dot, sse};
+ghost use Rattle.regression.specs.Regression.{Sample, extended, normal, dot, sse};
 ghost use Rattle.regression.specs.Solve.{systemLength, Workspace};
 ghost use Rattle.model_fit.specs.Input.{inputOf, tableOf, queryOf};
 ghost use Rattle.model_fit.specs.Samples.{designOf, sampleOf, trainingSamples, fitOn};
-ghost use Rattle.model_fit.specs.Shared.{Listed, Checked, Accumulated, FittedBy};
+ghost use Rattle.model_fit.specs.Shared.{Listed, Checked, Summed, Accumulated, FittedBy};
 use crate::design::charge_at;
 use crate::design::embed_peptide;
 use embedding::Model;
@@ -31,9 +32,8 @@ fn trains_at(label: &[i32], q: &[f32], i: usize) -> bool
     feature::trains(label[i], q[i])
 }
 
-// Adds a row's sample to the normal equations: what holds those of some samples then holds those of one more. `row` is room for the design row and
-// the target.
-fn add_sample(
+// Writes a row's sample into the first cells of `row`: its design row, and then its target.
+fn put_sample(
     model: Model,
     peptide: PeptideIx,
     charge: u8,
@@ -43,17 +43,76 @@ fn add_sample(
     logs: &[f64],
     y: f64,
     row: &mut [f64],
-    equations: &mut [f64],
 )
     requires { ⌜ Listed (tableOf (now letters) (now offsets) (now masses) (now logs)) (peptide .0) ⌝ }
     requires { ⌜ orderOf model < length (now row) ⌝ }
-    requires { ⌜ length (now equations) ≡ systemLength (orderOf model) ⌝ }
-    ensures { λ _. ⌜ ((ss : List Sample) → now (equations .entry) ≡ flat (normal (orderOf model) ss) → now (equations .exit) ≡ flat (normal (orderOf model) (ss ++ sampleOf model (tableOf (now (letters .entry)) (now (offsets .entry)) (now (masses .entry)) (now (logs .entry))) (queryOf (peptide .0) charge) y ∷ []))) ⌝ }
+    ensures { λ _. ⌜ take (orderOf model + 1) (now (row .exit)) ≡ extended (sampleOf model (tableOf (now (letters .entry)) (now (offsets .entry)) (now (masses .entry)) (now (logs .entry))) (queryOf (peptide .0) charge) y) ⌝ }
 {
     let d = embedding::order(model);
     embed_peptide(model, peptide, charge, letters, offsets, masses, logs, row);
     row[d] = y;
-    regression::add_row(equations, &row[..d + 1]);
+}
+
+// Adds a row's sample to the normal equations, with the one that is held back in `first`; or holds it back there, if none is. So two samples are added in
+// one pass over the equations, to each cell in their order. `second` is room for a sample.
+fn add_sample(
+    model: Model,
+    peptide: PeptideIx,
+    charge: u8,
+    letters: &[u8],
+    offsets: &[u32],
+    masses: &[f32],
+    logs: &[f64],
+    y: f64,
+    held: bool,
+    first: &mut [f64],
+    second: &mut [f64],
+    equations: &mut [f64],
+)
+    requires { ⌜ Listed (tableOf (now letters) (now offsets) (now masses) (now logs)) (peptide .0) ⌝ }
+    requires { ⌜ (orderOf model < length (now first)) × (orderOf model < length (now second)) ⌝ }
+    requires { ⌜ length (now equations) ≡ systemLength (orderOf model) ⌝ }
+    ensures { λ _. ⌜ ((ss : List Sample) → Summed (orderOf model) held (now (first .entry)) (now (equations .entry)) ss → Summed (orderOf model) (not held) (now (first .exit)) (now (equations .exit)) (ss ++ sampleOf model (tableOf (now (letters .entry)) (now (offsets .entry)) (now (masses .entry)) (now (logs .entry))) (queryOf (peptide .0) charge) y ∷ [])) ⌝ }
+{
+    if held {
+        put_sample(
+            model,
+            peptide,
+            charge,
+            letters,
+            offsets,
+            masses,
+            logs,
+            y,
+            second,
+        );
+        let w = embedding::order(model) + 1;
+        regression::add_two_rows(equations, &first[..w], &second[..w]);
+    } else {
+        put_sample(
+            model,
+            peptide,
+            charge,
+            letters,
+            offsets,
+            masses,
+            logs,
+            y,
+            first,
+        );
+    }
+}
+
+// Adds the sample that is held back in `row`, if one is.
+fn add_held(model: Model, held: bool, row: &[f64], equations: &mut [f64])
+    requires { ⌜ orderOf model < length (now row) ⌝ }
+    requires { ⌜ length (now equations) ≡ systemLength (orderOf model) ⌝ }
+    ensures { λ _. ⌜ ((ss : List Sample) → Summed (orderOf model) held (now (row .entry)) (now (equations .entry)) ss → now (equations .exit) ≡ flat (normal (orderOf model) ss)) ⌝ }
+{
+    if held {
+        let w = embedding::order(model) + 1;
+        regression::add_row(equations, &row[..w]);
+    }
 }
 
 // Sums the normal equations of the training rows into `equations`, which holds +0.0.
@@ -74,7 +133,9 @@ fn accumulate(
     requires { ⌜ now equations ≡ replicate (systemLength (orderOf model)) zero64 ⌝ }
     ensures { λ r. ⌜ Accumulated model (inputOf (now (peptide .entry)) (now (label .entry)) (now (q .entry)) (now (charge .entry)) (now (observed .entry)) (now (letters .entry)) (now (offsets .entry)) (now (masses .entry)) (now (logs .entry))) (now (equations .exit)) r ⌝ }
 {
-    let mut row = [0.0f64; 101];
+    let mut first = [0.0f64; 101];
+    let mut second = [0.0f64; 101];
+    let mut held = false;
     let mut sums = Sums::zero();
     for i in 0..peptide.len() {
         if !trains_at(label, q, i) {
@@ -93,11 +154,15 @@ fn accumulate(
             masses,
             logs,
             y,
-            &mut row,
+            held,
+            &mut first,
+            &mut second,
             equations,
         );
+        held = !held;
         sums = sums.add(y);
     }
+    add_held(model, held, &first, equations);
     sums
 }
 

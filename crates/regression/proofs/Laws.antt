@@ -95,6 +95,18 @@ add-row-normal D ss s acc acc₁ ext wide a x e =
     let n : length ext - 1 ≡ D = omega arith in
     e ∙ rw (n, w, a, x, rowsOf-normal D ss) (ap flat (normal-snoc D ss s wide))
 
+-- `add_two_rows` on them
+pub add-two-rows-normal : (D : ℕ) (ss : List Sample) (s t : Sample) (acc acc₁ first second : List Float) → length (s .row) ≡ D → length (t .row) ≡ D
+    → acc ≡ flat (normal D ss)
+    → first ≡ extended s
+    → second ≡ extended t
+    → acc₁ ≡ flat (addRow (addRow (rowsOf (length first) (length first - 1) acc) first) second)
+    → acc₁ ≡ flat (normal D ((ss ++ s ∷ []) ++ t ∷ []))
+add-two-rows-normal D ss s t acc acc₁ first second wide wide′ a x x′ e =
+    let w : length first ≡ D + 1 = ap length x ∙ length-append (s .row) (s .y ∷ []) ∙ ap (λ (n : ℕ). n + 1) wide in
+    let n : length first - 1 ≡ D = omega arith in
+    e ∙ rw (n, w, a, x, x′, rowsOf-normal D ss, normal-snoc D ss s wide) (ap flat (normal-snoc D (ss ++ s ∷ []) t wide′))
+
 -- the rows that `solve` finds
 pub kept-normal : (D : ℕ) (ss : List Sample) (cells : List Float) → drop (systemLength D) cells ≡ flat (normal D ss) → kept D cells ≡ normal D ss
 kept-normal D ss cells e = ap (rowsOf (D + 1) D) e ∙ rowsOf-normal D ss

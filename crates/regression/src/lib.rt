@@ -62,6 +62,37 @@ pub fn add_row(acc: &mut [f64], ext: &[f64])
     }
 }
 
+// Adds `a` times `x` and then `b` times `y` to `dst`, cell by cell. For this crate: `x` and `y` are at least as long as `dst`.
+fn add_scaled_two(dst: &mut [f64], x: &[f64], a: f64, y: &[f64], b: f64)
+    requires { ⌜ length (now dst) ≤ length (now x) ⌝ }
+    requires { ⌜ length (now dst) ≤ length (now y) ⌝ }
+    ensures { λ _. ⌜ now (dst .exit) ≡ zipped (plusScaled b) (zipped (plusScaled a) (now (dst .entry)) (now (x .entry))) (now (y .entry)) ⌝ }
+{
+    let mut k = 0usize;
+    while k < dst.len() {
+        dst[k] = dst[k] + a * x[k] + b * y[k];
+        k += 1;
+    }
+}
+
+// Adds two samples to the normal equations in one pass over them, to each cell the first sample's product before the second's: what `add_row` does
+// twice. For the models: both rows have one length, and `acc` has one row less than that.
+pub fn add_two_rows(acc: &mut [f64], first: &[f64], second: &[f64])
+    requires { ⌜ length (now acc) ≡ (length (now first) - 1) * length (now first) ⌝ }
+    requires { ⌜ length (now second) ≡ length (now first) ⌝ }
+    ensures { λ _. ⌜ now (acc .exit) ≡ flat (addRow (addRow (rowsOf (length (now (first .entry))) (length (now (first .entry)) - 1) (now (acc .entry))) (now (first .entry))) (now (second .entry))) ⌝ }
+{
+    let w = first.len();
+    let mut start = 0usize;
+    let mut j = 0usize;
+    while j + 1 < w {
+        let end = start + w;
+        add_scaled_two(&mut acc[start..end], first, first[j], second, second[j]);
+        start = end;
+        j += 1;
+    }
+}
+
 // The number of samples, the sum of their targets and of the targets' squares.
 pub struct Sums {
     pub n: u32,

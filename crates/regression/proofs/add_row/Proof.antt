@@ -1,19 +1,19 @@
 -- `regression::add_row` meets its contract. The loop's invariant: the first j rows are made anew (`made j`), and start is row j's first cell.
 -- Assumes nothing.
-use mathlib.Core.Path.{_≡_, refl, sym, _∙_}
-use mathlib.Core.List.{List, []}
-use Prim.Native.Nat.{ℕ, _+_, _*_, _≤_, _-_, _<_}
+use mathlib.Core.Path.{refl, sym, _∙_}
+use mathlib.Core.List.{List}
+use Prim.Native.Nat.{ℕ, _+_, _≤_, _-_}
 use native.Mathlib.Omega.{arith}
-use native.Mathlib.Numerals.{add-one}
-use lib.ListN.{length, getD, take, drop, length-take, length-drop}
+use lib.ListN.{length, getD}
 use native.Mathlib.Nat.{zero-mul}
 use lib.Ieee.{Float, nan}
 use denote.Ref.{now}
 use Rattle.matrix.specs.Rows.{rowsOf}
-use Rattle.matrix.proofs.Laws.{put, length-put, row-end, is-flat, row-rowsOf, rowsOf-put-row, length-rowsOf}
+use Rattle.matrix.proofs.Laws.{row-end, is-flat, length-rowsOf}
 use Rattle.matrix.specs.Lists.{zipped}
-use Rattle.elimination.proofs.Made.{made, made-none, made-suc, made-zipped}
+use Rattle.elimination.proofs.Made.{made-none, made-zipped}
 use Rattle.regression.specs.Regression.{plusScaled}
+use Rattle.regression.proofs.Rows.{RowsMade, next-row}
 use borrow.Author.Needs.{needs}
 use Rattle.regression.proofs.add_row.Statement.{statement}
 use Rattle.regression.proofs.add_row.Tie as tie
@@ -23,33 +23,7 @@ abbrev scaled : List Float → ℕ → List Float → List Float
 scaled ext i row = zipped (plusScaled (getD ext i nan)) row ext
 
 abbrev Inv-loop : tie.InvT-loop
-Inv-loop acc₀ ext w start₀ j₀ acc start j =
-    (start ≡ j * length ext)
-    × (j ≤ length ext - 1)
-    × (length acc ≡ length acc₀)
-    × (rowsOf (length ext) (length ext - 1) acc ≡ made (scaled ext) j (rowsOf (length ext) (length ext - 1) acc₀))
-
--- a turn of the loop: the part from start on, a row, came back with row j's sum
-turn : (ext acc₀ acc last : List Float) (start j : ℕ)
-    → (start ≡ j * length ext) × (j ≤ length ext - 1) × (length acc ≡ length acc₀) × (rowsOf (length ext) (length ext - 1) acc ≡ made (scaled ext) j (rowsOf (length ext) (length ext - 1) acc₀))
-    → j + 1 < length ext
-    → length acc₀ ≡ (length ext - 1) * length ext
-    → last ≡ scaled ext j (take (start + length ext - start) (drop start acc))
-    → length last ≡ length (take (start + length ext - start) (drop start acc))
-    → (start + length ext ≡ (j + 1) * length ext) × (j + 1 ≤ length ext - 1) × (length (put start (start + length ext - start) last acc) ≡ length acc₀)
-    × (rowsOf (length ext) (length ext - 1) (put start (start + length ext - start) last acc) ≡ made (scaled ext) (j + 1) (rowsOf (length ext) (length ext - 1) acc₀))
-turn ext acc₀ acc last start j inv h whole e len =
-    let w : ℕ = length ext in
-    let n : ℕ = length ext - 1 in
-    let at : start ≡ j * w = inv .0 in
-    let in-rows : j < n = omega arith in
-    let room : j * w + w ≤ length acc = omega (arith, row-end w n j in-rows) in
-    let width : start + w - start ≡ w = omega arith in
-    let lenw : length last ≡ w = len ∙ simp (length-take, length-drop) (omega arith) in
-    let row : last ≡ scaled ext j (getD (rowsOf w n acc) j []) = e ∙ rw (width, at, row-rowsOf w n j acc in-rows) in
-    let put-row : rowsOf w n (put start (start + w - start) last acc) ≡ made (scaled ext) (j + 1) (rowsOf w n acc₀) =
-    rw (width, at, add-one j) (rowsOf-put-row w n j last acc in-rows (omega arith) lenw ∙ rw (row, inv .3) (made-suc (scaled ext) j (rowsOf w n acc₀) [])) in
-    (omega arith, omega arith, length-put start (start + w - start) last acc (lenw ∙ sym width) (omega arith) ∙ inv .2, put-row)
+Inv-loop acc₀ ext w start₀ j₀ acc start j = RowsMade (length ext) (length ext - 1) (scaled ext) acc₀ acc start j
 
 abbrev μ-loop : tie.MeasureT-loop
 μ-loop acc₀ ext w start₀ j₀ acc start j = length ext - j
@@ -101,7 +75,8 @@ loop-again c =
     let l = c .before .before .before .before .before .before .loop in
     let a = c .before .before .before .before .before .before .before .before .before .args in
     let done = c .before .before .add-scaled in
-    turn (now (a .ext)) (now (a .acc)) (l .acc) (done .last .0) (l .start) (l .j) (l .inv) (omega arith) (omega arith) (done .ensures) (done .kept .0)
+    let w : ℕ = length (now (a .ext)) in
+    next-row w (w - 1) (scaled (now (a .ext))) (now (a .acc)) (l .acc) (done .last .0) (l .start) (l .j) (l .inv) (omega arith) (omega arith) (done .ensures) (done .kept .0)
 
 same-length : tie.Need-same-length Inv-loop μ-loop
 same-length c = search needs

@@ -1,7 +1,7 @@
--- `model_fit::training::accumulate` meets its contract. The loop's invariant: the equations and the sums are those of the training rows among the
--- first i. Assumes nothing.
-use mathlib.Core.Path.{_≡_, refl, sym, ap, _∙_}
-use mathlib.Core.Bool.{true, false}
+-- `model_fit::training::accumulate` meets its contract. The loop's invariant: the equations, with a row that may be held back, and the sums are those of the
+-- training rows among the first i. Assumes nothing.
+use mathlib.Core.Path.{_≡_, refl, sym, ap, _∙_, subst}
+use mathlib.Core.Bool.{Bool, true, false, not}
 use mathlib.Core.List.{List, [], _∷_, _++_}
 use Prim.Native.Nat.{ℕ, _+_, _-_, _≤_, _<_}
 use native.Mathlib.Omega.{arith}
@@ -21,23 +21,25 @@ use Rattle.regression.specs.declared.Sums.{Sums}
 use Rattle.regression.proofs.Laws.{normal-nil, sums-nil, sums-snoc}
 use Rattle.model_fit.specs.Input.{Input, inputOf, queryOf}
 use Rattle.model_fit.specs.Samples.{sampleOf}
-use Rattle.model_fit.specs.Shared.{Checked}
+use Rattle.model_fit.specs.Shared.{Checked, Summed}
 use Rattle.model_fit.proofs.Rows.{order-max, seen, sampleAt, seen-trains, seen-outside, seen-all, seen-few}
 use Rattle.model_fit.proofs.Status.{listed}
 use Rattle.model_fit.proofs.training.accumulate.Statement.{statement}
 use Rattle.model_fit.proofs.training.accumulate.Tie as tie
 
 abbrev Inv-loop : tie.InvT-loop
-Inv-loop model peptide label q charge observed letters offsets masses logs equations₀ row₀ sums₀ i₀ i-end equations row sums i =
+Inv-loop model peptide label q charge observed letters offsets masses logs equations₀ first₀ second₀ held₀ sums₀ i₀ i-end equations first second held sums i =
     let input : Input = inputOf peptide label q charge observed letters offsets masses logs in
     (i ≤ length peptide)
-    × (equations ≡ flat (normal (orderOf model) (seen model input i)))
+    × Summed (orderOf model) held first equations (seen model input i)
     × (sums ≡ sumsOf (seen model input i))
     × (length equations ≡ length equations₀)
-    × (length row ≡ 101)
+    × (length first ≡ 101)
+    × (length second ≡ 101)
 
 abbrev μ-loop : tie.MeasureT-loop
-μ-loop model peptide label q charge observed letters offsets masses logs equations₀ row₀ sums₀ i₀ i-end equations row sums i = length peptide - i
+μ-loop model peptide label q charge observed letters offsets masses logs equations₀ first₀ second₀ held₀ sums₀ i₀ i-end equations first second held sums i =
+    length peptide - i
 
 -- where the function begins, and what it was passed
 abbrev start : tie.At-loop Inv-loop μ-loop → tie.Start Inv-loop μ-loop
@@ -50,26 +52,26 @@ passed s =
 
 -- the start of a turn at a training row
 abbrev turn : tie.After-add-sample-arg Inv-loop μ-loop → tie.In-loop Inv-loop μ-loop
-turn d = d .before .before .before .before .before .before .before .before
+turn d = d .before .before .before .before .before .before .before .before .before
 
 -- a turn's row is one of the rows
 inside : (t : tie.In-loop Inv-loop μ-loop) → t .before .loop .i < length (now (start (t .before) .args .peptide))
 inside t = omega (arith, t .loop-test .taken)
 
 -- one training row more
-one-more : (model : Model) (i : Input) (k z : ℕ) (y : Float) (equations : List Float) (before after : Sums) → Checked i → k < length (i .peptides)
+one-more : (model : Model) (i : Input) (k z : ℕ) (y : Float) (held : Bool) (row equations : List Float) (before after : Sums) → Checked i → k < length (i .peptides)
     → trains (getD (i .labels) k (pos 0)) (getD (i .qs) k nan) ≡ true
     → z ≡ getD (i .charges) k 0
     → y ≡ getD (i .observed) k nan
-    → equations ≡ flat (normal (orderOf model) (seen model i k ++ sampleOf model (i .table) (queryOf (getD (i .peptides) k 0) z) y ∷ []))
+    → Summed (orderOf model) held row equations (seen model i k ++ sampleOf model (i .table) (queryOf (getD (i .peptides) k 0) z) y ∷ [])
     → before ≡ sumsOf (seen model i k)
     → after ≡ plusTarget before y
-    → (equations ≡ flat (normal (orderOf model) (seen model i (k + 1)))) × (after ≡ sumsOf (seen model i (k + 1)))
-one-more model i k z y equations before after checked h t ez ey e eb ea =
+    → Summed (orderOf model) held row equations (seen model i (k + 1)) × (after ≡ sumsOf (seen model i (k + 1)))
+one-more model i k z y held row equations before after checked h t ez ey e eb ea =
     let ss : List Sample = seen model i k in
     let s : sampleOf model (i .table) (queryOf (getD (i .peptides) k 0) z) y ≡ sampleAt model i k = rw (ez, ey) in
     let n : seen model i (k + 1) ≡ ss ++ sampleAt model i k ∷ [] = rw (add-one k) (seen-trains model i checked k h t) in (
-      e ∙ ap (λ (x : Sample). flat (normal (orderOf model) (ss ++ x ∷ []))) s ∙ ap (λ (x : List Sample). flat (normal (orderOf model) x)) (sym n),
+      subst (Summed (orderOf model) held row equations) (ap (λ (x : Sample). ss ++ x ∷ []) s ∙ sym n) e,
       ea ∙ ap (λ (x : Sums). plusTarget x y) eb ∙ ap (plusTarget (sumsOf ss)) ey ∙ sym (sums-snoc ss (sampleAt model i k)) ∙ ap sumsOf (sym n),
     )
 
@@ -80,7 +82,7 @@ loop-holds : tie.Need-loop-holds Inv-loop μ-loop
 unfolding kept
 loop-holds c =
     let s = c .before .before .before .before .before .before .before .before .before .before in
-    (search needs, s .pre .1 ∙ sym (normal-nil _), c .zero .ensures ∙ sym sums-nil, refl, refl)
+    (search needs, s .pre .1 ∙ sym (normal-nil _), c .zero .ensures ∙ sym sums-nil, refl, refl, refl)
 
 trains-at-requires : tie.Need-trains-at-requires Inv-loop μ-loop
 trains-at-requires c κs = let s = start (c .before) in (omega (arith, s .pre .0 .labels-long), omega (arith, s .pre .0 .qs-long))
@@ -100,7 +102,7 @@ loop-again c =
     let k = at .loop .i in
     let t : trains (getD (i .labels) k (pos 0)) (getD (i .qs) k nan) ≡ false = sym (c .before .trains-at .ensures) ∙ not-true _ (c .if1 .taken) in
     let n : seen model i (k + 1) ≡ seen model i k = rw (add-one k) (seen-outside model i (s .pre .0) k (inside (c .before .before)) t) in
-    (omega arith, at .loop .inv .1 ∙ ap (λ (x : List Sample). flat (normal (orderOf model) x)) (sym n), at .loop .inv .2 ∙ ap sumsOf (sym n), at .loop .inv .3, at .loop .inv .4)
+    (omega arith, subst (Summed (orderOf model) (at .loop .held) (at .loop .first) (at .loop .equations)) (sym n) (at .loop .inv .1), at .loop .inv .2 ∙ ap sumsOf (sym n), at .loop .inv .3, at .loop .inv .4, at .loop .inv .5)
 
 mul-widen : tie.Need-mul-widen Inv-loop μ-loop
 mul-widen c = omega (arith, start (c .before .before .before) .pre .0 .observed-long)
@@ -123,15 +125,20 @@ charge-at-requires c κs = search needs
 slice-aggregate-add-sample : tie.Need-slice-aggregate-add-sample Inv-loop μ-loop
 slice-aggregate-add-sample c = sym (c .before .before .before .before .before .before .before .before .loop .inv .4)
 
+slice-aggregate-add-sample-2 : tie.Need-slice-aggregate-add-sample-2 Inv-loop μ-loop
+slice-aggregate-add-sample-2 c = sym (c .before .before .before .before .before .before .before .before .before .loop .inv .5)
+
 add-sample-requires : tie.Need-add-sample-requires Inv-loop μ-loop
 add-sample-requires c κs =
     let t = turn c in
+    let l = t .before .loop in
     let s = start (t .before) in
-    (listed _ _ _ (s .pre .0 .numbered) (inside t), (omega (arith, order-max (s .args .model), t .before .loop .inv .4), t .before .loop .inv .3 ∙ ap length (s .pre .1) ∙ length-replicate _ _))
+    let m = order-max (s .args .model) in
+    (listed _ _ _ (s .pre .0 .numbered) (inside t), ((omega (arith, m, l .inv .4), omega (arith, m, l .inv .5)), l .inv .3 ∙ ap length (s .pre .1) ∙ length-replicate _ _))
 
 add-requires : tie.Need-add-requires Inv-loop μ-loop
 add-requires c κs =
-    let t = turn (c .before .before .before .before) in
+    let t = turn (c .before .before .before .before .before) in
     let l = t .before .loop in
     let s = start (t .before) in
     let n : l .sums .n ≡ length (seen (s .args .model) (passed s) (l .i)) = ap (λ (x : Sums). x .n) (l .inv .2) in
@@ -139,36 +146,57 @@ add-requires c κs =
 
 add-i-2 : tie.Need-add-i-2 Inv-loop μ-loop
 add-i-2 c =
-    let t = turn (c .before .before .before .before .before) in
+    let t = turn (c .before .before .before .before .before .before) in
     omega (arith, inside t, start (t .before) .pre .0 .rows-max)
 
 loop-less-2 : tie.Need-loop-less-2 Inv-loop μ-loop
-loop-less-2 c = omega (arith, inside (turn (c .before .before .before .before .before)))
+loop-less-2 c = omega (arith, inside (turn (c .before .before .before .before .before .before)))
 
 loop-again-2 : tie.Need-loop-again-2 Inv-loop μ-loop
 loop-again-2 c =
-    let d = c .before .before .before .before .before in
+    let d = c .before .before .before .before .before .before in
     let t = turn d in
     let l = t .before .loop in
     let s = start (t .before) in
     let i : Input = passed s in
-    let z = d .before .before .charge-at in
-    let y = d .before .before .before .before .widen in
-    let test = d .before .before .before .before .before .before in
-    let trained : trains (getD (i .labels) (l .i) (pos 0)) (getD (i .qs) (l .i) nan) ≡ true = sym (test .before .trains-at .ensures) ∙ not-false _ (test .if1 .left) in
-    let step = one-more (s .args .model) i (l .i) (z .result) (y .result) _ (l .sums) (c .add .result) (s .pre .0) (inside t) trained
-    (z .ensures) (y .ensures) (c .before .before .before .before .add-sample .ensures (seen (s .args .model) i (l .i)) (l .inv .1)) (l .inv .2) (c .add .ensures) in
-    (omega (arith, inside t), step .0, step .1, c .before .before .before .before .add-sample .kept .1 .1 .1 .1 .1 .1 .1 .1 .1 .0 ∙ l .inv .3, c .before .before .before .before .add-sample .kept .1 .1 .1 .1 .1 .1 .1 .1 .0 ∙ l .inv .4)
+    let z = c .before .before .before .before .before .before .before .before .before .charge-at in
+    let y = c .before .before .before .before .before .before .before .before .before .before .before .widen in
+    let added = c .before .before .before .before .before .add-sample in
+    let trained : trains (getD (i .labels) (l .i) (pos 0)) (getD (i .qs) (l .i) nan) ≡ true = sym (c .before .before .before .before .before .before .before .before .before .before .before .before .before .before .trains-at .ensures) ∙ not-false _ (c .before .before .before .before .before .before .before .before .before .before .before .before .before .if1 .left) in
+    let step = one-more (s .args .model) i (l .i) (z .result) (y .result) (not (l .held)) _ _ (l .sums) (c .add .result) (s .pre .0) (inside t) trained
+    (z .ensures) (y .ensures) (added .ensures (seen (s .args .model) i (l .i)) (l .inv .1)) (l .inv .2) (c .add .ensures) in (
+      omega (arith, inside t),
+      step .0,
+      step .1,
+      added .kept .1 .1 .1 .1 .1 .1 .1 .1 .1 .1 .1 .0 ∙ l .inv .3,
+      added .kept .1 .1 .1 .1 .1 .1 .1 .1 .1 .0 ∙ l .inv .4,
+      added .kept .1 .1 .1 .1 .1 .1 .1 .1 .1 .1 .0 ∙ l .inv .5,
+    )
+
+slice-aggregate-add-held : tie.Need-slice-aggregate-add-held Inv-loop μ-loop
+slice-aggregate-add-held c = sym (c .before .before .loop .inv .4)
+
+add-held-requires : tie.Need-add-held-requires Inv-loop μ-loop
+add-held-requires c κs =
+    let at = c .before .before .before in
+    let l = at .loop in
+    let s = start at in
+    (omega (arith, order-max (s .args .model), l .inv .4), l .inv .3 ∙ ap length (s .pre .1) ∙ length-replicate _ _)
 
 same-length : tie.Need-same-length Inv-loop μ-loop
-same-length c = c .before .loop .inv .3
+same-length c = search needs
 
 returns : tie.Need-returns Inv-loop μ-loop
 returns c =
-    let l = c .before .loop in
-    let s = start (c .before) in
-    let n = seen-all (s .args .model) (passed s) (s .pre .0) (l .i) (omega arith) in
-    record { equations = l .inv .1 ∙ ap (λ (x : List Sample). flat (normal (orderOf (s .args .model)) x)) n; sums = l .inv .2 ∙ ap sumsOf n }
+    let at = c .before .before .before .before .before .before in
+    let l = at .loop in
+    let s = start at in
+    let model = s .args .model in
+    let n = seen-all model (passed s) (s .pre .0) (l .i) (omega arith) in
+    record {
+      equations = c .before .before .add-held .ensures (seen model (passed s) (l .i)) (l .inv .1) ∙ ap (λ (x : List Sample). flat (normal (orderOf model) x)) n;
+      sums = l .inv .2 ∙ ap sumsOf n;
+    }
 
 pub accumulate-spec : {M : Type 1} → statement M
 accumulate-spec =
@@ -189,10 +217,13 @@ accumulate-spec =
     shared-slice-read-p
     charge-at-requires
     slice-aggregate-add-sample
+    slice-aggregate-add-sample-2
     add-sample-requires
     add-requires
     add-i-2
     loop-less-2
     loop-again-2
+    slice-aggregate-add-held
+    add-held-requires
     same-length
     returns)

@@ -1,0 +1,134 @@
+-- `regression::add_two_rows` meets its contract. The loop's invariant: the first j rows are made anew (`RowsMade`), by one sample and then the other.
+-- Assumes nothing.
+use mathlib.Core.Path.{_≡_, refl, sym, ap, _∙_}
+use mathlib.Core.List.{List}
+use Prim.Native.Nat.{ℕ, _+_, _≤_, _-_}
+use native.Mathlib.Nat.{zero-mul}
+use native.Mathlib.Omega.{arith}
+use lib.ListN.{length, getD}
+use lib.Ieee.{Float, nan}
+use denote.Ref.{now}
+use Rattle.matrix.specs.Rows.{rowsOf}
+use Rattle.matrix.specs.Lists.{zipped}
+use Rattle.matrix.proofs.Laws.{row-end, is-flat, length-rowsOf}
+use Rattle.matrix.proofs.Lists.{length-zipped}
+use Rattle.elimination.proofs.Made.{made, made-none, made-zipped}
+use Rattle.regression.specs.Regression.{plusScaled, addRow}
+use Rattle.regression.proofs.Rows.{RowsMade, next-row, made-twice}
+use borrow.Author.Needs.{needs}
+use Rattle.regression.proofs.add_two_rows.Statement.{statement}
+use Rattle.regression.proofs.add_two_rows.Tie as tie
+
+-- row i with an extended row times its cell i added
+abbrev scaled : List Float → ℕ → List Float → List Float
+scaled ext i row = zipped (plusScaled (getD ext i nan)) row ext
+
+abbrev Inv-loop : tie.InvT-loop
+Inv-loop acc₀ first second w start₀ j₀ acc start j =
+    RowsMade (length first) (length first - 1) (λ i row. scaled second i (scaled first i row)) acc₀ acc start j
+
+abbrev μ-loop : tie.MeasureT-loop
+μ-loop acc₀ first second w start₀ j₀ acc start j = length first - j
+
+-- the row's end
+fits : (c : tie.In-loop Inv-loop μ-loop) → c .before .loop .start + length (now (c .before .before .before .before .before .args .first)) ≤ length (c .before .loop .acc)
+fits c =
+    let w : ℕ = length (now (c .before .before .before .before .before .args .first)) in
+    omega (arith, row-end w (w - 1) (c .before .loop .j) (omega arith))
+
+-- all rows made anew, by one sample and then the other
+both : (first second : List Float) (n j : ℕ) (old : List (List Float)) → length old ≡ n → n ≤ length first → length second ≡ length first → n ≤ j
+    → made (λ i row. scaled second i (scaled first i row)) j old ≡ addRow (addRow old first) second
+both first second n j old l f e h =
+    let g : List Float → Float → List Float = λ row x. zipped (plusScaled x) row first in
+    let one : made (scaled first) j old ≡ addRow old first = made-zipped g nan j old first (omega arith) (omega arith) in
+    let m : length (addRow old first) ≡ length old = length-zipped g old first in
+    made-twice (scaled first) (scaled second) j old
+    ∙ ap (made (scaled second) j) one
+    ∙ made-zipped (λ row x. zipped (plusScaled x) row second) nan j (addRow old first) second (omega arith) (omega arith)
+
+loop-holds : tie.Need-loop-holds Inv-loop μ-loop
+loop-holds c = (sym (zero-mul _), search needs, refl, made-none _ _)
+
+add-loop : tie.Need-add-loop Inv-loop μ-loop
+add-loop c = search needs
+
+add-end : tie.Need-add-end Inv-loop μ-loop
+add-end c = omega (arith, fits c)
+
+mul-add-scaled-two : tie.Need-mul-add-scaled-two Inv-loop μ-loop
+mul-add-scaled-two c = omega (arith, fits c)
+
+sub-add-scaled-two : tie.Need-sub-add-scaled-two Inv-loop μ-loop
+sub-add-scaled-two c = search needs
+
+part-add-scaled-two-start : tie.Need-part-add-scaled-two-start Inv-loop μ-loop
+part-add-scaled-two-start c = search needs
+
+part-add-scaled-two-end : tie.Need-part-add-scaled-two-end Inv-loop μ-loop
+part-add-scaled-two-end c = omega (arith, fits c)
+
+mul-add-scaled-two-2 : tie.Need-mul-add-scaled-two-2 Inv-loop μ-loop
+mul-add-scaled-two-2 c = search needs
+
+shared-slice-read-add-scaled-two : tie.Need-shared-slice-read-add-scaled-two Inv-loop μ-loop
+shared-slice-read-add-scaled-two c = search needs
+
+mul-add-scaled-two-3 : tie.Need-mul-add-scaled-two-3 Inv-loop μ-loop
+mul-add-scaled-two-3 c = search needs
+
+shared-slice-read-add-scaled-two-2 : tie.Need-shared-slice-read-add-scaled-two-2 Inv-loop μ-loop
+shared-slice-read-add-scaled-two-2 c = search needs
+
+add-scaled-two-requires : tie.Need-add-scaled-two-requires Inv-loop μ-loop
+add-scaled-two-requires c κs = search needs
+
+add-j : tie.Need-add-j Inv-loop μ-loop
+add-j c = search needs
+
+loop-less : tie.Need-loop-less Inv-loop μ-loop
+loop-less c = search needs
+
+loop-again : tie.Need-loop-again Inv-loop μ-loop
+loop-again c =
+    let l = c .before .before .before .before .before .before .before .loop in
+    let a = c .before .before .before .before .before .before .before .before .before .before .before .args in
+    let done = c .before .before .add-scaled-two in
+    let w : ℕ = length (now (a .first)) in
+    next-row w (w - 1) (λ i row. scaled (now (a .second)) i (scaled (now (a .first)) i row)) (now (a .acc)) (l .acc) (done .last .0) (l .start) (l .j) (l .inv) (omega arith) (omega arith) (done .ensures) (done .kept .0)
+
+same-length : tie.Need-same-length Inv-loop μ-loop
+same-length c = search needs
+
+returns : tie.Need-returns Inv-loop μ-loop
+returns c =
+    let l = c .before .loop in
+    let s = c .before .before .before .before .before in
+    let a = s .args in
+    let w : ℕ = length (now (a .first)) in
+    is-flat w (w - 1) (l .acc) _ (omega arith)
+    (l .inv .3 ∙ both (now (a .first)) (now (a .second)) (w - 1) (l .j) (rowsOf w (w - 1) (now (a .acc))) (length-rowsOf _ _ _) (omega arith) (s .pre .1) (omega arith))
+
+pub add-two-rows-spec : {M : Type 1} → statement M
+add-two-rows-spec =
+    tie.close
+    (tie.spec
+    Inv-loop
+    μ-loop
+    loop-holds
+    add-loop
+    add-end
+    mul-add-scaled-two
+    sub-add-scaled-two
+    part-add-scaled-two-start
+    part-add-scaled-two-end
+    mul-add-scaled-two-2
+    shared-slice-read-add-scaled-two
+    mul-add-scaled-two-3
+    shared-slice-read-add-scaled-two-2
+    add-scaled-two-requires
+    add-j
+    loop-less
+    loop-again
+    same-length
+    returns)
