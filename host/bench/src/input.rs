@@ -1,5 +1,6 @@
 //! The inputs, in the form that each side takes, and a call of each side for each phase.
 
+use crate::calls::{Input, Model};
 use oracle::gen::run::batch;
 use oracle::rng::Rng;
 use sage::database::IndexedDatabase;
@@ -9,7 +10,7 @@ use sage::ml::mobility_model::{self, MobilityModel};
 use sage::ml::retention_alignment::global_alignment;
 use sage::ml::retention_model::{self, RetentionModel};
 use sage::scoring::Feature;
-use zorkamai::{mobility, raw, retention, PeptideTable, Rows};
+use zorkamai::{mobility, raw};
 
 const FILES: usize = 16;
 
@@ -47,44 +48,29 @@ impl System {
     }
 }
 
-/// A batch, as sage's features and database, and as columns and a table; and the room of both.
+/// A batch, as sage's features and database, and as the library's input; and the room of its calls.
 pub struct Work {
     db: IndexedDatabase,
     features: Vec<Feature>,
-    rows: Rows,
-    table: PeptideTable,
+    input: Input,
     workspace: Vec<f64>,
     records: [Vec<f32>; 3],
-    aligned: Vec<f32>,
     beta: Vec<f64>,
     predicted: Vec<f32>,
     error: Vec<f32>,
 }
 
 impl Work {
-    /// Rows of a tenth as many peptides, in 16 files.
+    /// Rows of a tenth as many peptides, in 16 files, aligned on both sides.
     pub fn new(n: usize) -> Work {
         let peptides = n / 10;
         let batch = batch(&mut Rng::new(n as u64), FILES, peptides, n);
-        let mut table = PeptideTable::default();
-        batch.peptides.iter().for_each(|p| table.push(&p.sequence, p.monoisotopic));
-        let rows = batch.rows.iter().map(|row| zorkamai::Row {
-            file: row.file as u32,
-            peptide: row.peptide.0,
-            label: row.label,
-            q: row.q,
-            rt: row.rt,
-            charge: row.charge,
-            mobility: row.ims,
-        });
         let mut work = Work {
             features: batch.rows.iter().map(|row| row.feature()).collect(),
-            rows: rows.collect(),
+            input: Input::new(&batch, vec![0.0; n]),
             db: IndexedDatabase { peptides: batch.peptides },
-            table,
             workspace: vec![0.0; (FILES * peptides).max(mobility::WORKSPACE)],
             records: [vec![0.0; FILES], vec![0.0; FILES], vec![0.0; FILES]],
-            aligned: vec![0.0; n],
             beta: vec![0.0; mobility::COLUMNS],
             predicted: vec![0.0; n],
             error: vec![0.0; n],
@@ -100,7 +86,7 @@ impl Work {
 
     pub fn align(&mut self) {
         let [max_rt, slope, intercept] = &mut self.records;
-        let (rows, peptides) = (&self.rows, self.table.len());
+        let Input { rows, aligned, table } = &mut self.input;
         let status = raw::align(
             &rows.file,
             &rows.peptide,
@@ -108,101 +94,39 @@ impl Work {
             &rows.q,
             &rows.rt,
             FILES,
-            peptides,
+            table.len(),
             &mut self.workspace,
             max_rt,
             slope,
             intercept,
-            &mut self.aligned,
+            aligned,
         );
         assert_eq!(status, 0);
     }
 
-    pub fn rust_retention_fit(&mut self) {
-        assert!(RetentionModel::fit(&self.db, &self.features).is_some());
+    pub fn rust_fit(&mut self, model: Model) {
+        assert!(match model {
+            Model::Retention => RetentionModel::fit(&self.db, &self.features).is_some(),
+            Model::Mobility => MobilityModel::fit(&self.db, &self.features).is_some(),
+        });
     }
 
-    pub fn retention_fit(&mut self) {
-        let (rows, table) = (&self.rows, &self.table);
-        let answer = raw::retention_fit(
-            &rows.peptide,
-            &rows.label,
-            &rows.q,
-            &self.aligned,
-            &table.letters,
-            &table.offsets,
-            &table.masses,
-            &table.logs,
-            &mut self.workspace,
-            &mut self.beta[..retention::COLUMNS],
-        );
+    pub fn fit(&mut self, model: Model) {
+        let answer = self.input.fit(model, &mut self.workspace, &mut self.beta);
         assert_eq!(answer.status, 0);
     }
 
-    pub fn rust_retention_predict(&mut self) {
-        assert!(retention_model::predict(&self.db, &mut self.features).is_some());
+    pub fn rust_predict(&mut self, model: Model) {
+        let (db, features) = (&self.db, &mut self.features);
+        assert!(match model {
+            Model::Retention => retention_model::predict(db, features).is_some(),
+            Model::Mobility => mobility_model::predict(db, features).is_some(),
+        });
     }
 
-    pub fn retention_predict(&mut self) {
-        let (rows, table) = (&self.rows, &self.table);
-        let answer = raw::retention_predict(
-            &rows.peptide,
-            &rows.label,
-            &rows.q,
-            &self.aligned,
-            &table.letters,
-            &table.offsets,
-            &table.masses,
-            &table.logs,
-            &mut self.workspace,
-            &mut self.beta,
-            &mut self.predicted,
-            &mut self.error,
-        );
-        assert_eq!(answer.status, 0);
-    }
-
-    pub fn rust_mobility_fit(&mut self) {
-        assert!(MobilityModel::fit(&self.db, &self.features).is_some());
-    }
-
-    pub fn mobility_fit(&mut self) {
-        let (rows, table) = (&self.rows, &self.table);
-        let answer = raw::mobility_fit(
-            &rows.peptide,
-            &rows.label,
-            &rows.q,
-            &rows.charge,
-            &rows.mobility,
-            &table.letters,
-            &table.offsets,
-            &table.masses,
-            &mut self.workspace,
-            &mut self.beta,
-        );
-        assert_eq!(answer.status, 0);
-    }
-
-    pub fn rust_mobility_predict(&mut self) {
-        assert!(mobility_model::predict(&self.db, &mut self.features).is_some());
-    }
-
-    pub fn mobility_predict(&mut self) {
-        let (rows, table) = (&self.rows, &self.table);
-        let answer = raw::mobility_predict(
-            &rows.peptide,
-            &rows.label,
-            &rows.q,
-            &rows.charge,
-            &rows.mobility,
-            &table.letters,
-            &table.offsets,
-            &table.masses,
-            &mut self.workspace,
-            &mut self.beta,
-            &mut self.predicted,
-            &mut self.error,
-        );
+    pub fn predict(&mut self, model: Model) {
+        let (work, beta) = (&mut self.workspace, &mut self.beta);
+        let answer = self.input.predict(model, work, beta, &mut self.predicted, &mut self.error);
         assert_eq!(answer.status, 0);
     }
 }

@@ -2,11 +2,16 @@
 //! for release. Each time is the best of several runs, the two sides in turn, in the processor's time of this thread.
 //!
 //!     cargo run --release --offline             all batches; the table that docs/BENCHMARKS.md holds
-//!     cargo run --release --offline -- small    without the batches of a million rows
+//!     cargo run --release --offline -- small    without the batch of a million rows
+//!
+//! `rt staticlib zorkamai` makes the library; `$SAGE_SRC` says where sage's source is (host/oracle/README.md).
 
+#[path = "../../compare/src/calls.rs"]
+mod calls;
 mod clock;
 mod input;
 
+use calls::Model::{Mobility, Retention};
 use input::{System, Work};
 use std::hint::black_box;
 
@@ -61,10 +66,10 @@ fn batch(rows: usize) -> Vec<Line> {
     };
     let phases: [Phase; 5] = [
         ("align", Work::rust_align, Work::align),
-        ("retention fit", Work::rust_retention_fit, Work::retention_fit),
-        ("retention predict", Work::rust_retention_predict, Work::retention_predict),
-        ("mobility fit", Work::rust_mobility_fit, Work::mobility_fit),
-        ("mobility predict", Work::rust_mobility_predict, Work::mobility_predict),
+        ("retention fit", |w| w.rust_fit(Retention), |w| w.fit(Retention)),
+        ("retention predict", |w| w.rust_predict(Retention), |w| w.predict(Retention)),
+        ("mobility fit", |w| w.rust_fit(Mobility), |w| w.fit(Mobility)),
+        ("mobility predict", |w| w.rust_predict(Mobility), |w| w.predict(Mobility)),
     ];
     let line = |(phase, rust, library)| {
         let (rust, library) = best(runs, &mut work, rust, library);

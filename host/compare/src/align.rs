@@ -1,9 +1,11 @@
 //! Batches through the alignment, and damaged calls of it.
 
+use crate::calls::columns;
 use crate::cells::{same, Output};
-use oracle::alignment::{align, Row};
+use oracle::alignment::{align, Aligned};
 use oracle::gen::alignment::Rows;
 use oracle::rng::Rng;
+use sage::ml::retention_alignment::Alignment;
 use zorkamai::raw;
 
 /// A batch of any family, aligned, and each way to damage the call.
@@ -15,20 +17,7 @@ pub fn case(r: &mut Rng) -> Result<usize, String> {
     Ok(1 + damaged(r, &batch, &columns, &mut out)?)
 }
 
-/// The rows' columns, as the library takes them.
-pub fn columns(rows: &[Row]) -> zorkamai::Rows {
-    let row = |row: &Row| zorkamai::Row {
-        file: row.file as u32,
-        peptide: row.peptide.0,
-        label: row.label,
-        q: row.q,
-        rt: row.rt,
-        charge: row.charge,
-        mobility: row.ims,
-    };
-    rows.iter().map(row).collect()
-}
-
+/// The slices that an alignment writes.
 pub struct Outputs {
     pub workspace: Output<f64>,
     /// The longest times, slopes, intercepts and aligned times.
@@ -75,16 +64,17 @@ impl Outputs {
 /// The call is accepted and gives what the Rust gives.
 pub fn accepted(batch: &Rows, rows: &zorkamai::Rows, out: &mut Outputs) -> Result<(), String> {
     same("status", out.call(rows, batch.files, batch.peptides), 0)?;
-    let want = align(batch.files, &batch.rows);
-    let [max_rt, slope, intercept, aligned] = &out.floats;
-    let of = |cell: fn(&sage::ml::retention_alignment::Alignment) -> f32| {
-        want.records.iter().map(cell).collect::<Vec<f32>>()
-    };
-    max_rt.holds(&of(|a| a.max_rt))?;
-    slope.holds(&of(|a| a.slope))?;
-    intercept.holds(&of(|a| a.intercept))?;
-    aligned.holds(&want.features.iter().map(|f| f.aligned_rt).collect::<Vec<f32>>())?;
+    holds_aligned(&out.floats, &align(batch.files, &batch.rows))?;
     out.workspace.zeroed()
+}
+
+/// The longest times, slopes, intercepts and aligned times are the Rust's.
+pub fn holds_aligned(floats: &[Output<f32>], want: &Aligned) -> Result<(), String> {
+    let of = |cell: fn(&Alignment) -> f32| want.records.iter().map(cell).collect::<Vec<f32>>();
+    floats[0].holds(&of(|a| a.max_rt))?;
+    floats[1].holds(&of(|a| a.slope))?;
+    floats[2].holds(&of(|a| a.intercept))?;
+    floats[3].holds(&want.times())
 }
 
 /// Refused with this status, and nothing changed.
@@ -136,17 +126,15 @@ fn damaged(
     refuse(out, rows, 1_024, 16_385, 2)?;
     // A slice one short.
     if out.workspace.needed() > 0 {
-        let mut short = out.workspace.short();
-        std::mem::swap(&mut short, &mut out.workspace);
+        let whole = out.workspace.cut();
         refuse(out, rows, files, peptides, 3)?;
-        std::mem::swap(&mut short, &mut out.workspace);
+        out.workspace = whole;
     }
     for i in 0..4 {
         if out.floats[i].needed() > 0 {
-            let mut short = out.floats[i].short();
-            std::mem::swap(&mut short, &mut out.floats[i]);
+            let whole = out.floats[i].cut();
             refuse(out, rows, files, peptides, 3)?;
-            std::mem::swap(&mut short, &mut out.floats[i]);
+            out.floats[i] = whole;
         }
     }
     // A number out of range; a file's before a peptide's.

@@ -53,10 +53,11 @@ impl<T: Cell> Output<T> {
         Output { name, now: before.clone(), before, needed }
     }
 
-    /// Cut to one cell less than needed.
-    pub fn short(&self) -> Output<T> {
+    /// Cuts it to one cell less than needed, and gives what it was.
+    pub fn cut(&mut self) -> Output<T> {
         let before = self.before[..self.needed - 1].to_vec();
-        Output { name: self.name, now: before.clone(), before, needed: self.needed }
+        let short = Output { name: self.name, now: before.clone(), before, needed: self.needed };
+        std::mem::replace(self, short)
     }
 
     /// The content before the call again.

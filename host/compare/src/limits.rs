@@ -1,7 +1,8 @@
 //! Inputs at the limits, once.
 
 use crate::align;
-use crate::models::{accepted, Input, Model, Outputs};
+use crate::calls::{columns, Input, Model};
+use crate::models::{accepted, Outputs};
 use crate::runs;
 use oracle::gen::alignment::plain;
 use oracle::gen::run::batch;
@@ -24,7 +25,7 @@ pub fn all() -> Result<String, String> {
 fn aligned(r: &mut Rng, files: usize, peptides: usize, rows: usize) -> Result<(), String> {
     let batch = plain(r, files, peptides, rows);
     let mut out = align::Outputs::new(r, &batch);
-    align::accepted(&batch, &align::columns(&batch.rows), &mut out)?;
+    align::accepted(&batch, &columns(&batch.rows), &mut out)?;
     println!("align: {rows} rows, {files} files × {peptides} peptides");
     Ok(())
 }
@@ -38,7 +39,7 @@ fn fitted(r: &mut Rng, peptides: usize, letters: Option<usize>) -> Result<(), St
         }
     }
     let want = run(&batch);
-    let input = Input::new(&batch, &want);
+    let input = Input::new(&batch, want.aligned.times());
     for model in [Model::Retention, Model::Mobility] {
         let mut out = Outputs::new(r, model, input.rows.len());
         accepted(model, &input, &want, &mut out)?;
@@ -52,7 +53,7 @@ fn fitted(r: &mut Rng, peptides: usize, letters: Option<usize>) -> Result<(), St
 
 fn too_many_rows(r: &mut Rng) -> Result<(), String> {
     let batch = plain(r, 1, 1, 1_048_577);
-    let status = zorkamai::align(&align::columns(&batch.rows), 1, 1).map_err(|e| e.number());
+    let status = zorkamai::align(&columns(&batch.rows), 1, 1).map_err(|e| e.number());
     match status {
         Err(2) => Ok(()),
         other => Err(format!("1,048,577 rows: {:?}", other.map(|_| ()))),

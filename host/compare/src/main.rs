@@ -6,10 +6,12 @@
 //!     cargo run --release --offline -- one FAMILY SEED    one case again
 //!     cargo run --release --offline -- limits             inputs at the limits, once
 //!
-//! A case is made from a seed of its own, which a failure names.
+//! A case is made from a seed of its own, which a failure names. `rt staticlib zorkamai` makes the library;
+//! `$SAGE_SRC` says where sage's source is (host/oracle/README.md).
 
 mod adapters;
 mod align;
+mod calls;
 mod cells;
 mod forms;
 mod limits;

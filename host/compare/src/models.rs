@@ -1,19 +1,19 @@
 //! Both models through `fit` and `predict`, and damaged calls of them.
 
-use crate::align::columns;
+use crate::calls::{Input, Model};
 use crate::cells::{same, Cell, Output};
 use oracle::rng::Rng;
-use oracle::run::{run, Batch, Fit, Run};
+use oracle::run::{run, Fit, Run};
 use sage::scoring::Feature;
-use zorkamai::{mobility, raw, retention, PeptideTable, Rows};
+use zorkamai::{mobility, raw, retention};
 
 /// A batch of any family: both models fitted on the Rust's aligned times, and each way to damage a call.
 pub fn case(r: &mut Rng) -> Result<usize, String> {
     let batch = oracle::gen::run::any(r);
     let want = run(&batch);
+    let input = Input::new(&batch, want.aligned.times());
     let mut calls = 0;
     for model in [Model::Retention, Model::Mobility] {
-        let input = Input::new(&batch, &want);
         let mut out = Outputs::new(r, model, input.rows.len());
         calls += accepted(model, &input, &want, &mut out)?;
         calls += damaged(r, model, &input, &mut out)?;
@@ -21,14 +21,8 @@ pub fn case(r: &mut Rng) -> Result<usize, String> {
     Ok(calls)
 }
 
-/// Which model is called.
-#[derive(Copy, Clone, Debug, PartialEq)]
-pub enum Model {
-    Retention,
-    Mobility,
-}
-
 impl Model {
+    /// The cells of its work room and of its coefficients.
     fn room(self) -> (usize, usize) {
         match self {
             Model::Retention => (retention::WORKSPACE, retention::COLUMNS),
@@ -36,6 +30,7 @@ impl Model {
         }
     }
 
+    /// The Rust's fit.
     fn want(self, run: &Run) -> &Fit {
         match self {
             Model::Retention => &run.retention,
@@ -50,22 +45,22 @@ impl Model {
             Model::Mobility => (f.predicted_ims, f.delta_ims_model),
         }
     }
-}
 
-/// What a call reads.
-#[derive(Clone)]
-pub struct Input {
-    pub rows: Rows,
-    pub aligned: Vec<f32>,
-    pub table: PeptideTable,
-}
-
-impl Input {
-    pub fn new(batch: &Batch, run: &Run) -> Input {
-        let mut table = PeptideTable::default();
-        batch.peptides.iter().for_each(|p| table.push(&p.sequence, p.monoisotopic));
-        let aligned = run.aligned.features.iter().map(|f| f.aligned_rt).collect();
-        Input { rows: columns(&batch.rows), aligned, table }
+    /// A cut of each column that the model takes, and of the logs where it takes them.
+    fn cuts(self) -> [Cut; 5] {
+        let [one, other]: [Cut; 2] = match self {
+            Model::Retention => [|i| i.aligned.pop().is_some(), |i| i.table.logs.pop().is_some()],
+            Model::Mobility => {
+                [|i| i.rows.charge.pop().is_some(), |i| i.rows.mobility.pop().is_some()]
+            }
+        };
+        [
+            |i| i.rows.peptide.pop().is_some(),
+            |i| i.rows.label.pop().is_some(),
+            |i| i.rows.q.pop().is_some(),
+            one,
+            other,
+        ]
     }
 }
 
@@ -84,56 +79,21 @@ impl Outputs {
         }
     }
 
-    fn fit(&mut self, model: Model, i: &Input) -> raw::Answer {
+    fn fit(&mut self, model: Model, input: &Input) -> raw::Answer {
         let [work, beta] = &mut self.doubles;
-        let (rows, t) = (&i.rows, &i.table);
-        let (p, l, q) = (&rows.peptide, &rows.label, &rows.q);
-        let (work, beta) = (&mut work.now, &mut beta.now);
-        let (letters, offsets, masses) = (&t.letters, &t.offsets, &t.masses);
-        match model {
-            Model::Retention => raw::retention_fit(
-                p, l, q, &i.aligned, letters, offsets, masses, &t.logs, work, beta,
-            ),
-            Model::Mobility => raw::mobility_fit(
-                p,
-                l,
-                q,
-                &rows.charge,
-                &rows.mobility,
-                letters,
-                offsets,
-                masses,
-                work,
-                beta,
-            ),
-        }
+        input.fit(model, &mut work.now, &mut beta.now)
     }
 
-    fn predict(&mut self, model: Model, i: &Input) -> raw::Answer {
+    fn predict(&mut self, model: Model, input: &Input) -> raw::Answer {
         let ([work, beta], [x, e]) = (&mut self.doubles, &mut self.floats);
-        let (rows, t) = (&i.rows, &i.table);
-        let (p, l, q) = (&rows.peptide, &rows.label, &rows.q);
-        let (work, beta, x, e) = (&mut work.now, &mut beta.now, &mut x.now, &mut e.now);
-        let (letters, offsets, masses) = (&t.letters, &t.offsets, &t.masses);
-        match model {
-            Model::Retention => raw::retention_predict(
-                p, l, q, &i.aligned, letters, offsets, masses, &t.logs, work, beta, x, e,
-            ),
-            Model::Mobility => raw::mobility_predict(
-                p,
-                l,
-                q,
-                &rows.charge,
-                &rows.mobility,
-                letters,
-                offsets,
-                masses,
-                work,
-                beta,
-                x,
-                e,
-            ),
-        }
+        input.predict(model, &mut work.now, &mut beta.now, &mut x.now, &mut e.now)
+    }
+
+    /// The answer, the work room and the coefficients are those of the Rust's fit.
+    fn holds_fit(&self, answer: raw::Answer, want: &Fit) -> Result<(), String> {
+        is_fit("fit", answer, want)?;
+        self.doubles[0].zeroed()?;
+        holds_beta(&self.doubles[1], want)
     }
 
     fn reset(&mut self) {
@@ -154,23 +114,15 @@ pub fn accepted(
     want: &Run,
     out: &mut Outputs,
 ) -> Result<usize, String> {
-    let fit = model.want(want);
-    is_fit("fit", out.fit(model, input), fit)?;
-    out.doubles[0].zeroed()?;
-    holds_beta(&out.doubles[1], fit)?;
+    let (fit, features) = (model.want(want), &want.aligned.features);
+    let answer = out.fit(model, input);
+    out.holds_fit(answer, fit)?;
     out.floats.iter().try_for_each(Output::unchanged)?;
     out.reset();
-    is_fit("fit", out.predict(model, input), fit)?;
-    out.doubles[0].zeroed()?;
-    holds_beta(&out.doubles[1], fit)?;
-    if let Fit::Solved { .. } = fit {
-        let written: Vec<(f32, f32)> =
-            want.aligned.features.iter().map(|f| model.written(f)).collect();
-        out.floats[0].holds(&written.iter().map(|w| w.0).collect::<Vec<f32>>())?;
-        out.floats[1].holds(&written.iter().map(|w| w.1).collect::<Vec<f32>>())?;
-    } else {
-        out.floats.iter().try_for_each(Output::unchanged)?;
-    }
+    let answer = out.predict(model, input);
+    out.holds_fit(answer, fit)?;
+    holds_column(&out.floats[0], fit, features, |f| model.written(f).0)?;
+    holds_column(&out.floats[1], fit, features, |f| model.written(f).1)?;
     Ok(2)
 }
 
@@ -193,6 +145,19 @@ pub fn holds_beta(beta: &Output<f64>, want: &Fit) -> Result<(), String> {
     }
 }
 
+/// The column is what the Rust wrote, or what it was where the model does not fit.
+pub fn holds_column(
+    column: &Output<f32>,
+    fit: &Fit,
+    features: &[Feature],
+    cell: impl Fn(&Feature) -> f32,
+) -> Result<(), String> {
+    match fit {
+        Fit::Solved { .. } => column.holds(&features.iter().map(cell).collect::<Vec<_>>()),
+        _ => column.unchanged(),
+    }
+}
+
 /// Each column one short, slices one short, broken offsets, a lower-case letter, a peptide out of range:
 /// refused, and nothing changed.
 fn damaged(r: &mut Rng, model: Model, input: &Input, out: &mut Outputs) -> Result<usize, String> {
@@ -206,53 +171,39 @@ fn damaged(r: &mut Rng, model: Model, input: &Input, out: &mut Outputs) -> Resul
         }
         out.unchanged()
     };
-    for damaged in shorter(model, input) {
+    for damaged in shorter(input, &model.cuts()) {
         refuse(out, &damaged, 1)?;
     }
     for (damaged, status) in broken(r, input) {
         refuse(out, &damaged, status)?;
     }
     for i in 0..2 {
-        let mut short = out.doubles[i].short();
-        std::mem::swap(&mut short, &mut out.doubles[i]);
+        let whole = out.doubles[i].cut();
         refuse(out, input, 3)?;
-        std::mem::swap(&mut short, &mut out.doubles[i]);
+        out.doubles[i] = whole;
     }
     for i in 0..2 {
         if out.floats[i].needed() > 0 {
-            let mut short = out.floats[i].short();
-            std::mem::swap(&mut short, &mut out.floats[i]);
+            let whole = out.floats[i].cut();
             calls += 1;
             same("status", out.predict(model, input).status, 3)?;
             out.unchanged()?;
-            std::mem::swap(&mut short, &mut out.floats[i]);
+            out.floats[i] = whole;
         }
     }
     Ok(calls)
 }
 
-/// The input with each of its columns one short.
-fn shorter(model: Model, input: &Input) -> Vec<Input> {
-    let cut = |change: fn(&mut Input) -> bool| {
+/// Cuts a column by one cell, if it has one.
+pub type Cut = fn(&mut Input) -> bool;
+
+/// The input after each of these cuts.
+pub fn shorter(input: &Input, cuts: &[Cut]) -> Vec<Input> {
+    let cut = |change: &Cut| {
         let mut damaged = input.clone();
         change(&mut damaged).then_some(damaged)
     };
-    let mut all = vec![
-        cut(|i| i.rows.peptide.pop().is_some()),
-        cut(|i| i.rows.label.pop().is_some()),
-        cut(|i| i.rows.q.pop().is_some()),
-    ];
-    match model {
-        Model::Retention => {
-            all.push(cut(|i| i.aligned.pop().is_some()));
-            all.push(cut(|i| i.table.logs.pop().is_some()));
-        }
-        Model::Mobility => {
-            all.push(cut(|i| i.rows.charge.pop().is_some()));
-            all.push(cut(|i| i.rows.mobility.pop().is_some()));
-        }
-    }
-    all.into_iter().flatten().collect()
+    cuts.iter().filter_map(cut).collect()
 }
 
 /// The input with its table or a peptide's number broken, and the number of each refusal.

@@ -1,17 +1,18 @@
 //! Whole runs, and damaged calls of them.
 
+use crate::align::holds_aligned;
+use crate::calls::Input;
 use crate::cells::{same, Output};
-use crate::models::{holds_beta, is_fit, Input};
+use crate::models::{broken, holds_beta, holds_column, is_fit, shorter, Cut};
 use oracle::rng::Rng;
-use oracle::run::{run, Batch, Fit, Run};
-use sage::scoring::Feature;
+use oracle::run::{run, Batch, Run};
 use zorkamai::{mobility, raw, retention};
 
 /// A batch of any family, run, and each way to damage the call.
 pub fn case(r: &mut Rng) -> Result<usize, String> {
     let batch = oracle::gen::run::any(r);
     let want = run(&batch);
-    let input = Input::new(&batch, &want);
+    let input = Input::new(&batch, want.aligned.times());
     let mut out = Outputs::new(r, &batch);
     accepted(&batch, &input, &want, &mut out)?;
     Ok(1 + damaged(r, &batch, &input, &mut out)?)
@@ -91,11 +92,7 @@ pub fn accepted(batch: &Batch, input: &Input, want: &Run, out: &mut Outputs) -> 
     is_fit("mobility", report.mobility, &want.mobility)?;
     out.doubles[0].zeroed()?;
     let features = &want.aligned.features;
-    let records = &want.aligned.records;
-    out.floats[0].holds(&records.iter().map(|a| a.max_rt).collect::<Vec<_>>())?;
-    out.floats[1].holds(&records.iter().map(|a| a.slope).collect::<Vec<_>>())?;
-    out.floats[2].holds(&records.iter().map(|a| a.intercept).collect::<Vec<_>>())?;
-    out.floats[3].holds(&features.iter().map(|f| f.aligned_rt).collect::<Vec<_>>())?;
+    holds_aligned(&out.floats[..4], &want.aligned)?;
     holds_column(&out.floats[4], &want.retention, features, |f| f.predicted_rt)?;
     holds_column(&out.floats[5], &want.retention, features, |f| f.delta_rt_model)?;
     holds_column(&out.floats[6], &want.mobility, features, |f| f.predicted_ims)?;
@@ -104,18 +101,17 @@ pub fn accepted(batch: &Batch, input: &Input, want: &Run, out: &mut Outputs) -> 
     holds_beta(&out.doubles[2], &want.mobility)
 }
 
-/// The column is what the Rust wrote, or what it was where the model does not fit.
-fn holds_column(
-    column: &Output<f32>,
-    fit: &Fit,
-    features: &[Feature],
-    cell: fn(&Feature) -> f32,
-) -> Result<(), String> {
-    match fit {
-        Fit::Solved { .. } => column.holds(&features.iter().map(cell).collect::<Vec<_>>()),
-        _ => column.unchanged(),
-    }
-}
+/// A cut of each column that a run takes, and of the logs.
+const CUTS: [Cut; 8] = [
+    |i| i.rows.file.pop().is_some(),
+    |i| i.rows.peptide.pop().is_some(),
+    |i| i.rows.label.pop().is_some(),
+    |i| i.rows.q.pop().is_some(),
+    |i| i.rows.rt.pop().is_some(),
+    |i| i.rows.charge.pop().is_some(),
+    |i| i.rows.mobility.pop().is_some(),
+    |i| i.table.logs.pop().is_some(),
+];
 
 /// Each column one short, each slice one short, limits passed, broken tables and numbers out of range: refused, and
 /// nothing changed.
@@ -131,27 +127,25 @@ fn damaged(r: &mut Rng, batch: &Batch, input: &Input, out: &mut Outputs) -> Resu
         out.unchanged()
     };
     let files = batch.files;
-    for damaged in shorter(input) {
+    for damaged in shorter(input, &CUTS) {
         refuse(out, &damaged, files, 1)?;
     }
     for many in [0, 1_025, usize::MAX] {
         refuse(out, input, many, 2)?;
     }
     for i in 0..out.doubles.len() {
-        let mut short = out.doubles[i].short();
-        std::mem::swap(&mut short, &mut out.doubles[i]);
+        let whole = out.doubles[i].cut();
         refuse(out, input, files, 3)?;
-        std::mem::swap(&mut short, &mut out.doubles[i]);
+        out.doubles[i] = whole;
     }
     for i in 0..out.floats.len() {
         if out.floats[i].needed() > 0 {
-            let mut short = out.floats[i].short();
-            std::mem::swap(&mut short, &mut out.floats[i]);
+            let whole = out.floats[i].cut();
             refuse(out, input, files, 3)?;
-            std::mem::swap(&mut short, &mut out.floats[i]);
+            out.floats[i] = whole;
         }
     }
-    for (damaged, status) in crate::models::broken(r, input) {
+    for (damaged, status) in broken(r, input) {
         refuse(out, &damaged, files, status)?;
     }
     if !input.rows.is_empty() {
@@ -160,23 +154,4 @@ fn damaged(r: &mut Rng, batch: &Batch, input: &Input, out: &mut Outputs) -> Resu
         refuse(out, &damaged, files, 4)?;
     }
     Ok(calls)
-}
-
-/// The input with each of its columns one short.
-fn shorter(input: &Input) -> Vec<Input> {
-    let cuts: [fn(&mut Input) -> bool; 8] = [
-        |i| i.rows.file.pop().is_some(),
-        |i| i.rows.peptide.pop().is_some(),
-        |i| i.rows.label.pop().is_some(),
-        |i| i.rows.q.pop().is_some(),
-        |i| i.rows.rt.pop().is_some(),
-        |i| i.rows.charge.pop().is_some(),
-        |i| i.rows.mobility.pop().is_some(),
-        |i| i.table.logs.pop().is_some(),
-    ];
-    let cut = |change: fn(&mut Input) -> bool| {
-        let mut damaged = input.clone();
-        change(&mut damaged).then_some(damaged)
-    };
-    cuts.into_iter().filter_map(cut).collect()
 }

@@ -55,6 +55,13 @@ fn only(status: u8) -> raw::Answer {
 /// The left and the right side, the order, the right columns, and the number that refuses them.
 type Call<'a> = (&'a [f64], &'a [f64], usize, usize, u8);
 
+/// The call is refused with its number, and changes nothing.
+fn refused(out: &mut Outputs, (left, right, n, c, status): Call) -> Result<(), String> {
+    same("answer", out.call(left, right, n, c), only(status))?;
+    out.workspace.unchanged()?;
+    out.solution.unchanged()
+}
+
 /// Sides one short or one long, numbers past the limits, and slices one short: refused, nothing changed.
 fn damaged(r: &mut Rng, s: &System, out: &mut Outputs) -> Result<usize, String> {
     out.workspace.reset();
@@ -74,30 +81,21 @@ fn damaged(r: &mut Rng, s: &System, out: &mut Outputs) -> Result<usize, String> 
         (&s.left, &[], s.n, 0, 2),
         (&[], &s.right[..0], 0, huge, 2),
     ];
-    for (left, right, n, c, status) in calls {
-        same("answer", out.call(left, right, n, c), only(status))?;
-        out.workspace.unchanged()?;
-        out.solution.unchanged()?;
+    for call in calls {
+        refused(out, call)?;
     }
     let mut count = calls.len() + 3;
     let wide = vec![0.5; s.n * 9];
-    same("answer", out.call(&s.left, &wide, s.n, 9), only(2))?;
-    out.workspace.unchanged()?;
-    out.solution.unchanged()?;
-    let mut short = out.workspace.short();
-    let answer = raw::solve(&s.left, &s.right, s.n, s.c, &mut short.now, &mut out.solution.now);
-    same("answer", answer, only(3))?;
-    short.unchanged()?;
-    out.solution.unchanged()?;
-    let mut short = out.solution.short();
-    let answer = raw::solve(&s.left, &s.right, s.n, s.c, &mut out.workspace.now, &mut short.now);
-    same("answer", answer, only(3))?;
-    short.unchanged()?;
-    out.workspace.unchanged()?;
+    refused(out, (&s.left, &wide, s.n, 9, 2))?;
+    let whole = out.workspace.cut();
+    refused(out, (&s.left, &s.right, s.n, s.c, 3))?;
+    out.workspace = whole;
+    let whole = out.solution.cut();
+    refused(out, (&s.left, &s.right, s.n, s.c, 3))?;
+    out.solution = whole;
     if r.one_in(50) {
         let order = vec![0.5; 101 * 101];
-        same("answer", out.call(&order, &order[..101], 101, 1), only(2))?;
-        out.workspace.unchanged()?;
+        refused(out, (&order, &order[..101], 101, 1, 2))?;
         count += 1;
     }
     Ok(count)

@@ -3,21 +3,11 @@
 use nan_bits::*;
 
 fn is64(what: &str, from: u64, x: f64, want: u64) {
-    assert_eq!(
-        x.to_bits(),
-        want,
-        "{what} of {from:016X} is {:016X}",
-        x.to_bits()
-    );
+    assert_eq!(x.to_bits(), want, "{what} of {from:016X} is {:016X}", x.to_bits());
 }
 
 fn is32(what: &str, from: u64, x: f32, want: u32) {
-    assert_eq!(
-        x.to_bits(),
-        want,
-        "{what} of {from:016X} is {:08X}",
-        x.to_bits()
-    );
+    assert_eq!(x.to_bits(), want, "{what} of {from:016X} is {:08X}", x.to_bits());
 }
 
 #[test]
@@ -44,12 +34,7 @@ fn f64_nans() {
         is64("min64 after a number", b, min64(1.5, x), 1.5f64.to_bits());
         is64("clamp64", b, clamp64(x, 0.0, 1.0), NAN64);
         is64("clamp64 between NaNs", b, clamp64(x, other, x), NAN64);
-        is64(
-            "clamp64 of a number between NaNs",
-            b,
-            clamp64(1.5, x, other),
-            1.5f64.to_bits(),
-        );
+        is64("clamp64 of a number between NaNs", b, clamp64(1.5, x, other), 1.5f64.to_bits());
     }
 }
 
@@ -72,12 +57,7 @@ fn numbers_stay() {
         is64("from_bits64", b, from_bits64(b), b);
         is32("narrow", b, narrow(x), (x as f32).to_bits());
         is64("min64", b, min64(x, x), b);
-        is64(
-            "clamp64",
-            b,
-            clamp64(x, f64::NEG_INFINITY, f64::INFINITY),
-            b,
-        );
+        is64("clamp64", b, clamp64(x, f64::NEG_INFINITY, f64::INFINITY), b);
     }
     for b in values32() {
         let x = f32::from_bits(b);

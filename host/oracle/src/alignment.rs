@@ -48,6 +48,13 @@ pub struct Aligned {
     pub features: Vec<Feature>,
 }
 
+impl Aligned {
+    /// The rows' aligned times.
+    pub fn times(&self) -> Vec<f32> {
+        self.features.iter().map(|f| f.aligned_rt).collect()
+    }
+}
+
 /// Aligns the rows of `files` files.
 pub fn align(files: usize, rows: &[Row]) -> Aligned {
     let mut features: Vec<Feature> = rows.iter().map(Row::feature).collect();

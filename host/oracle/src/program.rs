@@ -6,7 +6,7 @@ use sage::database::PeptideIx;
 use std::fmt::Write;
 
 /// The bytes that a text may have.
-const BYTES: usize = 65_536;
+pub const BYTES: usize = 65_536;
 
 /// The limits of files, peptides and rows.
 const LIMITS: [usize; 3] = [8, 64, 256];

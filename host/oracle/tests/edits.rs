@@ -97,8 +97,8 @@ fn tally(pair: &Pair) -> HashMap<&'static str, usize> {
             Edit::Remove(at) => ("remove", Some(*at), None),
             Edit::Move(from, _) => ("move", Some(*from), None),
         };
-        assert!(named.map_or(true, |at| !trains(&rows[at])), "a row that trains is edited");
-        assert!(brought.map_or(true, |row| !trains(row)), "a row that trains is brought");
+        assert!(!named.is_some_and(|at| trains(&rows[at])), "a row that trains is edited");
+        assert!(!brought.is_some_and(trains), "a row that trains is brought");
         edit.apply(&mut rows);
         *counts.entry(name).or_default() += 1;
         if !rows.iter().all(|row| is_in(&pair.before, row)) {

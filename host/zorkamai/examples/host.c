@@ -2,7 +2,8 @@
  * system.
  *
  *   rt staticlib zorkamai
- *   cc -I host/zorkamai/include host/zorkamai/examples/host.c target/staticlib/libzorkamai.a -lm -o host
+ *   cc -I host/zorkamai/include host/zorkamai/examples/host.c target/staticlib/libzorkamai.a -lm -o target/host
+ *   target/host
  */
 #include "zorkamai.h"
 

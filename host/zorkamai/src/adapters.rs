@@ -10,22 +10,35 @@ use crate::{align, mobility, retention, Alignment, Error, Fit, PeptideTable, Row
 
 /// A row of the host: what is read of it, and what is written to it.
 pub trait Feature {
+    /// The file's number, from 0.
     fn file_id(&self) -> usize;
+    /// The peptide's number in the host's [`Database`].
     fn peptide_idx(&self) -> u32;
+    /// 1 for a target. A row trains if its label is 1 and its q at most 0.01.
     fn label(&self) -> i32;
+    /// The spectrum's q.
     fn spectrum_q(&self) -> f32;
+    /// The retention time.
     fn rt(&self) -> f32;
+    /// The precursor's charge.
     fn charge(&self) -> u8;
+    /// The ion mobility.
     fn ims(&self) -> f32;
+    /// The aligned time that [`global_alignment`] wrote, for [`predict_retention`].
     fn aligned_rt(&self) -> f32;
+    /// Takes the aligned time.
     fn set_aligned_rt(&mut self, aligned_rt: f32);
+    /// Takes the predicted time and its distance from the aligned time.
     fn set_retention(&mut self, predicted_rt: f32, delta_rt_model: f32);
+    /// Takes the predicted mobility and its distance from the mobility.
     fn set_mobility(&mut self, predicted_ims: f32, delta_ims_model: f32);
 }
 
 /// The host's peptides (sage's `IndexedDatabase`).
 pub trait Database {
+    /// The peptide's letters, A to Z.
     fn sequence(&self, peptide_idx: u32) -> &[u8];
+    /// The peptide's mass.
     fn monoisotopic(&self, peptide_idx: u32) -> f32;
 }
 

@@ -25,12 +25,9 @@ pub struct Aligned {
 /// # Ok::<(), zorkamai::Error>(())
 /// ```
 pub fn align(rows: &Rows, files: usize, peptides: usize) -> Result<Aligned, Error> {
-    let cells = peptides.saturating_mul(files);
-    // Past the limits the call is refused, whatever room it has.
-    let room = if cells <= CELLS && files <= FILES { (cells, files) } else { (0, 0) };
-    let mut workspace = vec![0.0; room.0];
-    let (mut max_rt, mut slope, mut intercept) =
-        (vec![0.0; room.1], vec![0.0; room.1], vec![0.0; room.1]);
+    let (cells, records) = room(files, peptides);
+    let mut workspace = vec![0.0; cells];
+    let [mut max_rt, mut slope, mut intercept] = [(); 3].map(|_| vec![0.0; records]);
     let mut aligned = vec![0.0; rows.len()];
     let number = raw::align(
         &rows.file,
@@ -46,15 +43,32 @@ pub fn align(rows: &Rows, files: usize, peptides: usize) -> Result<Aligned, Erro
         &mut intercept,
         &mut aligned,
     );
-    if number != 0 {
-        return Err(refused(rows, files, peptides).error(number));
+    match number {
+        0 => Ok(Aligned { records: records_of(&max_rt, &slope, &intercept), aligned }),
+        _ => Err(handed_in(rows, files, peptides).error(number)),
     }
-    let record =
-        |i: usize| Alignment { max_rt: max_rt[i], slope: slope[i], intercept: intercept[i] };
-    Ok(Aligned { records: (0..files).map(record).collect(), aligned })
 }
 
-fn refused(rows: &Rows, files: usize, peptides: usize) -> Call<'_> {
+/// The cells of work room and the records that an alignment needs. Past the limits it is refused, whatever room
+/// it has.
+pub(crate) fn room(files: usize, peptides: usize) -> (usize, usize) {
+    let cells = peptides.saturating_mul(files);
+    if cells <= CELLS && files <= FILES {
+        (cells, files)
+    } else {
+        (0, 0)
+    }
+}
+
+/// The records that three columns hold.
+pub(crate) fn records_of(max_rt: &[f32], slope: &[f32], intercept: &[f32]) -> Vec<Alignment> {
+    let record =
+        |i: usize| Alignment { max_rt: max_rt[i], slope: slope[i], intercept: intercept[i] };
+    (0..max_rt.len()).map(record).collect()
+}
+
+/// What a call of an alignment handed in.
+pub(crate) fn handed_in(rows: &Rows, files: usize, peptides: usize) -> Call<'_> {
     let columns = vec![
         ("file", rows.file.len()),
         ("peptide", rows.peptide.len()),

@@ -2,7 +2,8 @@
 
 use crate::raw;
 
-/// Walks down a column of a matrix of rows × cols cells that lies in a slice, row by row.
+/// Walks down a column of a matrix of rows × cols cells that lies in a slice, row by row. It ends where the matrix
+/// or the slice has no such cell.
 ///
 /// ```
 /// let cells = [1.0, 2.0, 3.0, 4.0, 5.0, 6.0];

@@ -81,7 +81,8 @@ impl fmt::Display for Error {
 
 impl std::error::Error for Error {}
 
-/// What the refused call handed in, to find out what was wrong with it.
+/// What a call handed in, to find out what was wrong with it where it is refused.
+#[derive(Default)]
 pub(crate) struct Call<'a> {
     /// The columns that belong together, by name, with their lengths.
     pub columns: Vec<(&'static str, usize)>,
@@ -107,7 +108,10 @@ impl Call<'_> {
             5 => first_past(self.peptide, self.peptides)
                 .map(|(row, peptide)| Error::Peptide { row, peptide, peptides: self.peptides })
                 .expect("5 is answered only for such a row"),
-            6 => self.table.and_then(|t| t.first_bad_letter()).expect("6 is answered only then"),
+            6 => self
+                .table
+                .and_then(|t| t.first_bad_letter())
+                .expect("6 is answered only for such a letter"),
             7 => Error::Offsets(self.table.map_or_else(String::new, |t| t.bad_offsets())),
             8 => Error::NoTrainingRow,
             9 => Error::NotSolved,

@@ -2,10 +2,11 @@
 //! bit and compiled into a static library: this is the safe Rust side of it, without dependencies.
 //!
 //! [`align`] puts the times of all files on one scale, [`retention`] and [`mobility`] fit the models and
-//! predict rows, [`run`] does all three, [`solve`] is the solver that their fits use, [`record_of`] and [`aligned_time`] find a file's record in a list of records, and [`Column`] walks down a
-//! column of a matrix. Each allocates what it needs and answers a [`Result`]; an [`Error`] says which row,
-//! column or limit was wrong. [`raw`] has the same functions over slices of the caller's, [`adapters`]
-//! takes the place of sage's own calls.
+//! predict rows, [`run`] does all three, [`solve`] solves a system as their fits do, [`record_of`] and
+//! [`aligned_time`] look a file up in a list of records, and [`Column`] walks down a column of a matrix. Each
+//! function allocates what it needs and answers a [`Result`]; an [`Error`] says which row, column or limit
+//! was wrong. [`raw`] has the same functions over slices of the caller's, [`adapters`] takes the place of
+//! sage's own calls.
 //!
 //! ```
 //! let mut rows = zorkamai::Rows::default();
@@ -18,8 +19,8 @@
 //! # Ok::<(), zorkamai::Error>(())
 //! ```
 //!
-//! Linking: `build.rs` takes `libzorkamai.a` from `$STATICLIB_DIR`, or else from `target/staticlib` of the
-//! repository, where `rt staticlib zorkamai` writes it.
+//! Linking: `build.rs` takes `libzorkamai.a` from `$STATICLIB_DIR` (a whole path), or else from
+//! `target/staticlib` of the repository, where `rt staticlib zorkamai` writes it.
 
 pub mod adapters;
 mod alignment;
@@ -42,14 +43,18 @@ pub use solver::{solve, Solution};
 
 /// The limits of what may be handed in.
 pub mod limits {
+    /// Of files; at least 1.
     pub const FILES: usize = 1_024;
+    /// Of rows.
     pub const ROWS: usize = 1_048_576;
+    /// Of peptides.
     pub const PEPTIDES: usize = 1_048_576;
     /// Of peptides × files.
     pub const CELLS: usize = 16_777_216;
     /// Of a peptide's letters.
     pub const LETTERS: usize = 255;
-    /// Of the solver's left side, and of its right columns.
+    /// Of the solver's order, n; at least 1.
     pub const ORDER: usize = 100;
+    /// Of the solver's right columns, c; at least 1.
     pub const COLUMNS: usize = 8;
 }

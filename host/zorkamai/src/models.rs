@@ -9,6 +9,7 @@ use crate::{raw, Error, PeptideTable, Rows};
 pub struct Fit {
     /// The first ridge, from 1E-8 in steps of ten, with which the normal equations are solved.
     pub ridge: f64,
+    /// 1 less the squared errors' share of the variance, over the training rows. It may be infinite or NaN.
     pub r2: f64,
     /// The number of training rows.
     pub n: usize,
@@ -19,22 +20,51 @@ pub struct Fit {
 /// A fitted model, and for each row its prediction and its distance from what was observed.
 #[derive(Clone, Debug, PartialEq)]
 pub struct Predicted {
+    /// The model.
     pub fit: Fit,
+    /// A prediction for each row.
     pub predicted: Vec<f32>,
+    /// The absolute difference of each row's prediction and what was observed.
     pub error: Vec<f32>,
 }
 
-/// The fit of an answer, or why there is none.
-fn fitted(answer: raw::Answer, beta: Vec<f64>, refused: Call) -> Result<Fit, Error> {
-    match answer.status {
-        0 => Ok(Fit { ridge: answer.ridge, r2: answer.r2, n: answer.n as usize, beta }),
-        number => Err(refused.error(number)),
+impl Fit {
+    /// The fit of an answer, or why there is none.
+    pub(crate) fn of(answer: raw::Answer, beta: Vec<f64>, call: &Call) -> Result<Fit, Error> {
+        match answer.status {
+            0 => Ok(Fit { ridge: answer.ridge, r2: answer.r2, n: answer.n as usize, beta }),
+            number => Err(call.error(number)),
+        }
     }
 }
 
-fn refused<'a>(
+/// Calls a fit with work room and coefficients of these lengths.
+fn fitted(
+    (workspace, columns): (usize, usize),
+    handed_in: Call,
+    call: impl FnOnce(&mut [f64], &mut [f64]) -> raw::Answer,
+) -> Result<Fit, Error> {
+    let (mut workspace, mut beta) = (vec![0.0; workspace], vec![0.0; columns]);
+    let answer = call(&mut workspace, &mut beta);
+    Fit::of(answer, beta, &handed_in)
+}
+
+/// As [`fitted`], with a cell for each row of the predictions and of the errors too.
+fn predicted(
+    room: (usize, usize),
+    handed_in: Call,
+    call: impl FnOnce(&mut [f64], &mut [f64], &mut [f32], &mut [f32]) -> raw::Answer,
+) -> Result<Predicted, Error> {
+    let n = handed_in.peptide.len();
+    let (mut predicted, mut error) = (vec![0.0; n], vec![0.0; n]);
+    let fit = fitted(room, handed_in, |work, beta| call(work, beta, &mut predicted, &mut error))?;
+    Ok(Predicted { fit, predicted, error })
+}
+
+/// What a model's call hands in; `others` are its columns besides those that both models take.
+fn handed_in<'a>(
     rows: &'a Rows,
-    others: Vec<(&'static str, usize)>,
+    others: &[(&'static str, usize)],
     table: &'a PeptideTable,
 ) -> Call<'a> {
     let mut columns =
@@ -42,15 +72,8 @@ fn refused<'a>(
     columns.extend(others);
     let limits =
         vec![("rows", rows.peptide.len(), 0, ROWS), ("peptides", table.masses.len(), 0, PEPTIDES)];
-    Call {
-        columns,
-        limits,
-        file: &[],
-        files: 0,
-        peptide: &rows.peptide,
-        peptides: table.masses.len(),
-        table: Some(table),
-    }
+    let (peptide, peptides) = (&rows.peptide[..], table.masses.len());
+    Call { columns, limits, peptide, peptides, table: Some(table), ..Call::default() }
 }
 
 /// The retention model: 69 columns of a peptide against the aligned time.
@@ -76,20 +99,13 @@ pub mod retention {
     /// # Ok::<(), Error>(())
     /// ```
     pub fn fit(rows: &Rows, aligned: &[f32], table: &PeptideTable) -> Result<Fit, Error> {
-        let (mut workspace, mut beta) = (vec![0.0; WORKSPACE], vec![0.0; COLUMNS]);
-        let answer = raw::retention_fit(
-            &rows.peptide,
-            &rows.label,
-            &rows.q,
-            aligned,
-            &table.letters,
-            &table.offsets,
-            &table.masses,
-            &table.logs,
-            &mut workspace,
-            &mut beta,
-        );
-        fitted(answer, beta, refused(rows, others(aligned, table), table))
+        let Rows { peptide, label, q, .. } = rows;
+        let PeptideTable { letters, offsets, masses, logs } = table;
+        fitted((WORKSPACE, COLUMNS), handed_in(rows, aligned, table), |work, beta| {
+            raw::retention_fit(
+                peptide, label, q, aligned, letters, offsets, masses, logs, work, beta,
+            )
+        })
     }
 
     /// Fits the model and predicts every row, from 0 to 1.
@@ -106,29 +122,19 @@ pub mod retention {
     /// # Ok::<(), zorkamai::Error>(())
     /// ```
     pub fn predict(rows: &Rows, aligned: &[f32], table: &PeptideTable) -> Result<Predicted, Error> {
-        let (mut workspace, mut beta) = (vec![0.0; WORKSPACE], vec![0.0; COLUMNS]);
-        let n = rows.peptide.len();
-        let (mut predicted, mut error) = (vec![0.0; n], vec![0.0; n]);
-        let answer = raw::retention_predict(
-            &rows.peptide,
-            &rows.label,
-            &rows.q,
-            aligned,
-            &table.letters,
-            &table.offsets,
-            &table.masses,
-            &table.logs,
-            &mut workspace,
-            &mut beta,
-            &mut predicted,
-            &mut error,
-        );
-        let fit = fitted(answer, beta, refused(rows, others(aligned, table), table))?;
-        Ok(Predicted { fit, predicted, error })
+        let Rows { peptide, label, q, .. } = rows;
+        let PeptideTable { letters, offsets, masses, logs } = table;
+        predicted((WORKSPACE, COLUMNS), handed_in(rows, aligned, table), |work, beta, x, e| {
+            raw::retention_predict(
+                peptide, label, q, aligned, letters, offsets, masses, logs, work, beta, x, e,
+            )
+        })
     }
 
-    fn others(aligned: &[f32], table: &PeptideTable) -> Vec<(&'static str, usize)> {
-        vec![("aligned", aligned.len()), ("masses", table.masses.len()), ("logs", table.logs.len())]
+    fn handed_in<'a>(rows: &'a Rows, aligned: &[f32], table: &'a PeptideTable) -> Call<'a> {
+        let (masses, logs) = (table.masses.len(), table.logs.len());
+        let others = [("aligned", aligned.len()), ("masses", masses), ("logs", logs)];
+        super::handed_in(rows, &others, table)
     }
 }
 
@@ -152,20 +158,13 @@ pub mod mobility {
     /// # Ok::<(), zorkamai::Error>(())
     /// ```
     pub fn fit(rows: &Rows, table: &PeptideTable) -> Result<Fit, Error> {
-        let (mut workspace, mut beta) = (vec![0.0; WORKSPACE], vec![0.0; COLUMNS]);
-        let answer = raw::mobility_fit(
-            &rows.peptide,
-            &rows.label,
-            &rows.q,
-            &rows.charge,
-            &rows.mobility,
-            &table.letters,
-            &table.offsets,
-            &table.masses,
-            &mut workspace,
-            &mut beta,
-        );
-        fitted(answer, beta, refused(rows, others(rows), table))
+        let Rows { peptide, label, q, charge, mobility, .. } = rows;
+        let PeptideTable { letters, offsets, masses, .. } = table;
+        fitted((WORKSPACE, COLUMNS), handed_in(rows, table), |work, beta| {
+            raw::mobility_fit(
+                peptide, label, q, charge, mobility, letters, offsets, masses, work, beta,
+            )
+        })
     }
 
     /// Fits the model and predicts every row, from 0 to 2.
@@ -179,28 +178,17 @@ pub mod mobility {
     /// # Ok::<(), zorkamai::Error>(())
     /// ```
     pub fn predict(rows: &Rows, table: &PeptideTable) -> Result<Predicted, Error> {
-        let (mut workspace, mut beta) = (vec![0.0; WORKSPACE], vec![0.0; COLUMNS]);
-        let n = rows.peptide.len();
-        let (mut predicted, mut error) = (vec![0.0; n], vec![0.0; n]);
-        let answer = raw::mobility_predict(
-            &rows.peptide,
-            &rows.label,
-            &rows.q,
-            &rows.charge,
-            &rows.mobility,
-            &table.letters,
-            &table.offsets,
-            &table.masses,
-            &mut workspace,
-            &mut beta,
-            &mut predicted,
-            &mut error,
-        );
-        let fit = fitted(answer, beta, refused(rows, others(rows), table))?;
-        Ok(Predicted { fit, predicted, error })
+        let Rows { peptide, label, q, charge, mobility, .. } = rows;
+        let PeptideTable { letters, offsets, masses, .. } = table;
+        predicted((WORKSPACE, COLUMNS), handed_in(rows, table), |work, beta, x, e| {
+            raw::mobility_predict(
+                peptide, label, q, charge, mobility, letters, offsets, masses, work, beta, x, e,
+            )
+        })
     }
 
-    fn others(rows: &Rows) -> Vec<(&'static str, usize)> {
-        vec![("charge", rows.charge.len()), ("mobility", rows.mobility.len())]
+    fn handed_in<'a>(rows: &'a Rows, table: &'a PeptideTable) -> Call<'a> {
+        let others = [("charge", rows.charge.len()), ("mobility", rows.mobility.len())];
+        super::handed_in(rows, &others, table)
     }
 }

@@ -6,13 +6,19 @@ use crate::Error;
 /// A row: one match of a spectrum to a peptide.
 #[derive(Copy, Clone, Debug, Default, PartialEq)]
 pub struct Row {
+    /// The file's number, from 0.
     pub file: u32,
+    /// The peptide's number in the [`PeptideTable`], from 0.
     pub peptide: u32,
     /// 1 for a target. A row trains if its label is 1 and its q at most 0.01.
     pub label: i32,
+    /// The spectrum's q.
     pub q: f32,
+    /// The retention time.
     pub rt: f32,
+    /// The precursor's charge.
     pub charge: u8,
+    /// The ion mobility.
     pub mobility: f32,
 }
 
@@ -46,6 +52,7 @@ impl Rows {
         self.file.len()
     }
 
+    /// Whether there is no row.
     pub fn is_empty(&self) -> bool {
         self.file.is_empty()
     }
@@ -97,10 +104,12 @@ impl PeptideTable {
         self.masses.len()
     }
 
+    /// Whether there is no peptide.
     pub fn is_empty(&self) -> bool {
         self.masses.is_empty()
     }
 
+    /// The error of the first letter outside A to Z.
     pub(crate) fn first_bad_letter(&self) -> Option<Error> {
         let at = self.letters.iter().position(|x| !x.is_ascii_uppercase())?;
         Some(Error::Letter { at, letter: self.letters[at] })

@@ -1,16 +1,18 @@
 //! A whole run over a batch.
 
-use crate::alignment::Aligned;
+use crate::alignment::{self, records_of, room, Aligned};
 use crate::error::Call;
-use crate::limits::{CELLS, FILES, PEPTIDES, ROWS};
-use crate::models::Predicted;
-use crate::{mobility, raw, retention, Alignment, Error, Fit, PeptideTable, Rows};
+use crate::models::{Fit, Predicted};
+use crate::{mobility, raw, retention, Error, PeptideTable, Rows};
 
 /// What a run gives: a model that does not fit has its error.
 #[derive(Clone, Debug, PartialEq)]
 pub struct Run {
+    /// The records and the aligned times.
     pub aligned: Aligned,
+    /// The retention model on the aligned times.
     pub retention: Result<Predicted, Error>,
+    /// The mobility model.
     pub mobility: Result<Predicted, Error>,
 }
 
@@ -28,100 +30,62 @@ pub struct Run {
 /// # Ok::<(), zorkamai::Error>(())
 /// ```
 pub fn run(rows: &Rows, files: usize, table: &PeptideTable) -> Result<Run, Error> {
-    let (n, cells) = (rows.len(), table.len().saturating_mul(files));
-    // Past the limits the call is refused, whatever room it has.
-    let room = if cells <= CELLS && files <= FILES { (cells, files) } else { (0, 0) };
-    let mut workspace = vec![0.0; room.0.max(mobility::WORKSPACE)];
-    let mut records = [vec![0.0; room.1], vec![0.0; room.1], vec![0.0; room.1]];
-    let mut betas = [vec![0.0; retention::COLUMNS], vec![0.0; mobility::COLUMNS]];
+    let (cells, records) = room(files, table.len());
+    let n = rows.len();
+    let mut workspace = vec![0.0; cells.max(mobility::WORKSPACE)];
+    let [mut max_rt, mut slope, mut intercept] = [(); 3].map(|_| vec![0.0; records]);
     let mut aligned = vec![0.0; n];
-    let [mut predicted, mut error] = [(); 2].map(|_| [vec![0.0; n], vec![0.0; n]]);
-    let report = {
-        let [max_rt, slope, intercept] = &mut records;
-        let ([beta, beta2], [x, x2], [e, e2]) = (&mut betas, &mut predicted, &mut error);
-        raw::run(
-            &rows.file,
-            &rows.peptide,
-            &rows.label,
-            &rows.q,
-            &rows.rt,
-            &rows.charge,
-            &rows.mobility,
-            files,
-            &table.letters,
-            &table.offsets,
-            &table.masses,
-            &table.logs,
-            &mut workspace,
-            max_rt,
-            slope,
-            intercept,
-            &mut aligned,
-            beta,
-            x,
-            e,
-            beta2,
-            x2,
-            e2,
-        )
-    };
+    let outputs = |columns: usize| (vec![0.0; columns], vec![0.0; n], vec![0.0; n]);
+    let (mut time_beta, mut time, mut time_error) = outputs(retention::COLUMNS);
+    let (mut ims_beta, mut ims, mut ims_error) = outputs(mobility::COLUMNS);
+    let report = raw::run(
+        &rows.file,
+        &rows.peptide,
+        &rows.label,
+        &rows.q,
+        &rows.rt,
+        &rows.charge,
+        &rows.mobility,
+        files,
+        &table.letters,
+        &table.offsets,
+        &table.masses,
+        &table.logs,
+        &mut workspace,
+        &mut max_rt,
+        &mut slope,
+        &mut intercept,
+        &mut aligned,
+        &mut time_beta,
+        &mut time,
+        &mut time_error,
+        &mut ims_beta,
+        &mut ims,
+        &mut ims_error,
+    );
+    let call = handed_in(rows, files, table);
     if report.status != 0 {
-        return Err(refused(rows, files, table).error(report.status));
+        return Err(call.error(report.status));
     }
-    let [max_rt, slope, intercept] = &records;
-    let record =
-        |i: usize| Alignment { max_rt: max_rt[i], slope: slope[i], intercept: intercept[i] };
-    let aligned = Aligned { records: (0..files).map(record).collect(), aligned };
-    let ([beta, beta2], [x, x2], [e, e2]) = (betas, predicted, error);
+    let model = |answer, beta, predicted, error| {
+        let fit = Fit::of(answer, beta, &call)?;
+        Ok(Predicted { fit, predicted, error })
+    };
     Ok(Run {
-        aligned,
-        retention: predictions(report.retention, beta, x, e),
-        mobility: predictions(report.mobility, beta2, x2, e2),
+        aligned: Aligned { records: records_of(&max_rt, &slope, &intercept), aligned },
+        retention: model(report.retention, time_beta, time, time_error),
+        mobility: model(report.mobility, ims_beta, ims, ims_error),
     })
 }
 
-/// A model's part of the report, 0, 8 or 9.
-fn predictions(
-    answer: raw::Answer,
-    beta: Vec<f64>,
-    predicted: Vec<f32>,
-    error: Vec<f32>,
-) -> Result<Predicted, Error> {
-    match answer.status {
-        0 => {
-            let fit = Fit { ridge: answer.ridge, r2: answer.r2, n: answer.n as usize, beta };
-            Ok(Predicted { fit, predicted, error })
-        }
-        8 => Err(Error::NoTrainingRow),
-        _ => Err(Error::NotSolved),
-    }
-}
-
-fn refused<'a>(rows: &'a Rows, files: usize, table: &'a PeptideTable) -> Call<'a> {
-    let columns = vec![
-        ("file", rows.file.len()),
-        ("peptide", rows.peptide.len()),
-        ("label", rows.label.len()),
-        ("q", rows.q.len()),
-        ("rt", rows.rt.len()),
+/// What a call of a run handed in.
+fn handed_in<'a>(rows: &'a Rows, files: usize, table: &'a PeptideTable) -> Call<'a> {
+    let mut call = alignment::handed_in(rows, files, table.len());
+    call.columns.extend([
         ("charge", rows.charge.len()),
         ("mobility", rows.mobility.len()),
         ("masses", table.masses.len()),
         ("logs", table.logs.len()),
-    ];
-    let limits = vec![
-        ("files", files, 1, FILES),
-        ("rows", rows.len(), 0, ROWS),
-        ("peptides", table.len(), 0, PEPTIDES),
-        ("peptides × files", table.len().saturating_mul(files), 0, CELLS),
-    ];
-    Call {
-        columns,
-        limits,
-        file: &rows.file,
-        files,
-        peptide: &rows.peptide,
-        peptides: table.len(),
-        table: Some(table),
-    }
+    ]);
+    Call { table: Some(table), ..call }
 }

@@ -31,11 +31,12 @@ pub fn solve(left: &[f64], right: &[f64], n: usize, c: usize) -> Result<Solution
     let answer = raw::solve(left, right, n, c, &mut workspace, &mut cells);
     match answer.status {
         0 => Ok(Solution { ridge: answer.ridge, cells }),
-        number => Err(refused(left.len(), right.len(), n, c).error(number)),
+        number => Err(handed_in(left.len(), right.len(), n, c).error(number)),
     }
 }
 
-fn refused(left: usize, right: usize, n: usize, c: usize) -> Call<'static> {
+/// What a call of the solver handed in: the lengths of both sides, the order and the right columns.
+fn handed_in(left: usize, right: usize, n: usize, c: usize) -> Call<'static> {
     let columns = vec![
         ("the left side", left),
         ("n × n", n.saturating_mul(n)),
@@ -43,5 +44,5 @@ fn refused(left: usize, right: usize, n: usize, c: usize) -> Call<'static> {
         ("n × c", n.saturating_mul(c)),
     ];
     let limits = vec![("order", n, 1, ORDER), ("right columns", c, 1, COLUMNS)];
-    Call { columns, limits, file: &[], files: 0, peptide: &[], peptides: 0, table: None }
+    Call { columns, limits, ..Call::default() }
 }

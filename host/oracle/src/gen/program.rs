@@ -1,15 +1,12 @@
 //! Texts for the align program: well-formed ones, refused ones, and ones that are malformed in every way the grammar allows.
 
 use super::pools::{edge32, nan32};
-use crate::program::block;
+use crate::program::{block, BYTES};
 use crate::rng::Rng;
 
 /// The two lines and the row of document 01's example.
 const HEAD: &str = "files=1\npeptides=1\n";
 const ROW: &str = "file=0\npeptide=0\nlabel=1\nq=00000000\nrt=41200000\n";
-
-/// The bytes that a text may have.
-const BYTES: usize = 65_536;
 
 /// All texts: the number of them, then a block for each.
 pub fn cases() -> Vec<u8> {

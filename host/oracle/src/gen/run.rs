@@ -128,7 +128,7 @@ fn nasty_peptide(r: &mut Rng) -> Peptide {
     peptide
 }
 
-/// Rows that don't train, by label or by q.
+/// Takes a row out of the training set, by its label or its q.
 fn leave(r: &mut Rng, row: &mut crate::alignment::Row) {
     match r.one_in(2) {
         true => row.label = r.pick(&[-1, 0, 2, i32::MIN]),
@@ -136,6 +136,7 @@ fn leave(r: &mut Rng, row: &mut crate::alignment::Row) {
     }
 }
 
+/// One row trains.
 pub fn one_training_row(r: &mut Rng) -> Batch {
     let mut batch = batch(r, 2, 4, 9);
     let only = r.below(9);
@@ -148,6 +149,7 @@ pub fn one_training_row(r: &mut Rng) -> Batch {
     batch
 }
 
+/// No row trains.
 pub fn without_training(r: &mut Rng) -> Batch {
     let rows = r.range(1, 12);
     let mut batch = batch(r, 2, 4, rows);
