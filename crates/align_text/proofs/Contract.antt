@@ -1,7 +1,7 @@
 -- The contract of `align_text`, by whether the text fits, and what a caller has of it. Assumes nothing.
 use mathlib.Core.Path.{_≡_, refl, sym, ap, _∙_}
 use mathlib.Core.Bool.{Bool, true, false, cond}
-use mathlib.Core.List.{List, _++_}
+use mathlib.Core.List.{List, [], _∷_, _++_}
 use Prim.Native.Nat.{ℕ, _+_, _≤_, _<_}
 use native.Mathlib.Omega.{arith}
 use lib.ListN.{length, drop}
@@ -11,27 +11,29 @@ use Rattle.matrix.specs.Lists.{overwritten}
 use Rattle.feature.specs.Status.{accepted, tooShort}
 use Rattle.align_text.specs.declared.TextAnswer.{TextAnswer}
 use Rattle.align_text.specs.declared.TextAnswer.the-variants.{Written, Refused}
-use Rattle.align_text.specs.AlignText.{alignText, fits, numberOf, Answered}
+use Rattle.align_text.specs.AlignText.{alignText, fits, numberOf, lengthsIn, Answered}
 
 module _ (t before : List ℕ) (n : ℕ) (e : n ≡ 0 + length (alignText t)) where
   pub no-room : length before < n → Answered t before (Refused tooShort) before
-  unfolding numberOf
+  unfolding numberOf lengthsIn
   no-room h =
       let f : fits (alignText t) before ≡ false = lt-leb (length (alignText t)) (length before) (omega arith) in
       record {
         answer = sym (ap (λ (b : Bool). cond b (Written (length (alignText t))) (Refused tooShort)) f);
         number = sym (ap (λ (b : Bool). cond b accepted tooShort) f);
+        values = sym (ap (λ (b : Bool). cond b (length (alignText t) ∷ []) []) f);
         output = sym (ap (λ (b : Bool). cond b (overwritten (alignText t) before) before) f);
       }
 
   pub written : n ≤ length before → (after : List ℕ) → after ≡ sets before 0 (alignText t) → Answered t before (Written n) after
-  unfolding numberOf
+  unfolding numberOf lengthsIn
   written h after w =
       let f : fits (alignText t) before ≡ true = le-leb (length (alignText t)) (length before) (omega arith) in
       let z : 0 + length (alignText t) ≡ length (alignText t) = omega arith in
       record {
         answer = ap Written (e ∙ z) ∙ sym (ap (λ (b : Bool). cond b (Written (length (alignText t))) (Refused tooShort)) f);
         number = sym (ap (λ (b : Bool). cond b accepted tooShort) f);
+        values = ap (λ (k : ℕ). k ∷ []) (e ∙ z) ∙ sym (ap (λ (b : Bool). cond b (length (alignText t) ∷ []) []) f);
         output = w
             ∙ sets-eq (alignText t) before 0 (omega arith)
             ∙ ap (λ (k : ℕ). alignText t ++ drop k before) z

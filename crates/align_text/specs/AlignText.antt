@@ -2,7 +2,7 @@
 use Prim.Native.Nat.{ℕ}
 use mathlib.Core.Path.{_≡_}
 use mathlib.Core.Bool.{Bool, _&&_, cond}
-use mathlib.Core.List.{List, map}
+use mathlib.Core.List.{List, [], _∷_, map}
 use mathlib.Core.Option.{Option, none, some}
 use lib.Dec.{leb}
 use lib.ListN.{length}
@@ -88,8 +88,14 @@ unfoldable pub numberOf : TextAnswer → ℕ
 numberOf (Written n) = accepted
 numberOf (Refused n) = n
 
--- The contract: the answer, its number, and the whole slice after the call. A text that does not fit is 3, and leaves the slice as it was.
+-- the values of an answer: how many bytes were written, or none
+unfoldable pub lengthsIn : TextAnswer → List ℕ
+lengthsIn (Written n) = n ∷ []
+lengthsIn (Refused n) = []
+
+-- The contract: the answer, its number, its values, and the whole slice after the call. A text that does not fit is 3, and leaves the slice as it was.
 pub record Answered (input before : List ℕ) (r : TextAnswer) (after : List ℕ) : Type 0 where
   pub answer : r ≡ cond (fits (alignText input) before) (Written (length (alignText input))) (Refused tooShort)
   pub number : numberOf r ≡ cond (fits (alignText input) before) accepted tooShort
+  pub values : lengthsIn r ≡ cond (fits (alignText input) before) (length (alignText input) ∷ []) []
   pub output : after ≡ cond (fits (alignText input) before) (overwritten (alignText input) before) before

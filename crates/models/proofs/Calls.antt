@@ -27,7 +27,7 @@ use Rattle.matrix.proofs.Lists.{overwrite-part, zipWith-append, zipWith-none}
 use Rattle.models.specs.declared.FitAnswer.{FitAnswer}
 use Rattle.models.specs.declared.FitAnswer.the-variants.{Fitted, Refused}
 use Rattle.models.specs.Prediction.{isSolved, predictionOf, errorOf, predictions, errors}
-use Rattle.models.specs.Call.{answerStatus, answerValues, ifAccepted, answerOf, statusFor, valuesFor, predictRoom, fitStatus, predictStatus, FittedWithin, FitCall, PredictCall}
+use Rattle.models.specs.Call.{answerStatus, answerValues, ifAccepted, answerOf, statusFor, valuesFor, predictRoom, fitStatus, predictStatus, FittedWithin, PredictedWithin, FitCall, PredictCall}
 use Rattle.models.proofs.Writing.{length-predictions}
 
 -- ---- the slices' lengths
@@ -192,18 +192,17 @@ module _ (model : Model) (i : Input) (w₀ b₀ p₀ e₀ : List Float) where
         error = sym (if-refused s _ _ h);
       }
 
-  pub predict-accepted : (w₁ b₁ p₁ e₁ : List Float) (r : FitOutcome) → predictStatus model i w₀ b₀ p₀ e₀ ≡ accepted → FittedWithin model i w₀ w₁ b₀ b₁ r
-      → p₁ ≡ overwritten (predictions model i) p₀ → e₁ ≡ overwritten (errors model i) e₀
+  pub predict-accepted : (w₁ b₁ p₁ e₁ : List Float) (r : FitOutcome) → predictStatus model i w₀ b₀ p₀ e₀ ≡ accepted → PredictedWithin model i w₀ w₁ b₀ b₁ p₀ p₁ e₀ e₁ r
       → PredictCall model i w₀ w₁ b₀ b₁ p₀ p₁ e₀ e₁ (Fitted r)
-  predict-accepted w₁ b₁ p₁ e₁ r h f ep ee =
+  predict-accepted w₁ b₁ p₁ e₁ r h f =
       let s : ℕ = predictStatus model i w₀ b₀ p₀ e₀ in
-      let a : Fitted r ≡ answerOf s (fitOn model i) = ap Fitted (f .outcome) ∙ sym (if-accepted s _ _ h) in
+      let a : Fitted r ≡ answerOf s (fitOn model i) = ap Fitted (f .fitted .outcome) ∙ sym (if-accepted s _ _ h) in
       record {
         answer = a;
         status = status-of s (fitOn model i) (Fitted r) a;
         values = values-of s (fitOn model i) (Fitted r) a;
-        workspace = f .workspace ∙ sym (if-accepted s _ _ h);
-        beta = f .beta ∙ sym (if-accepted s _ _ h);
-        predicted = ep ∙ sym (if-accepted s _ _ h);
-        error = ee ∙ sym (if-accepted s _ _ h);
+        workspace = f .fitted .workspace ∙ sym (if-accepted s _ _ h);
+        beta = f .fitted .beta ∙ sym (if-accepted s _ _ h);
+        predicted = f .predicted ∙ sym (if-accepted s _ _ h);
+        error = f .error ∙ sym (if-accepted s _ _ h);
       }

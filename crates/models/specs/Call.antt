@@ -73,6 +73,12 @@ pub record FittedWithin (model : Model) (i : Input) (workspace₀ workspace₁ b
   -- a fit that is solved has a coefficient for each column
   pub long : isSolved r ≡ true → length (fitOn model i .beta) ≡ orderOf model
 
+-- a prediction that passed the checks: the fit, and the outputs, which are left where it is not solved
+pub record PredictedWithin (model : Model) (i : Input) (workspace₀ workspace₁ beta₀ beta₁ predicted₀ predicted₁ error₀ error₁ : List Float) (r : FitOutcome) : Type 0 where
+  pub fitted : FittedWithin model i workspace₀ workspace₁ beta₀ beta₁ r
+  pub predicted : predicted₁ ≡ overwritten (predictions model i) predicted₀
+  pub error : error₁ ≡ overwritten (errors model i) error₀
+
 -- a call of `fit` on slices that held workspace₀ and beta₀
 pub record FitCall (model : Model) (i : Input) (workspace₀ workspace₁ beta₀ beta₁ : List Float) (r : FitAnswer) : Type 0 where
   pub answer : r ≡ answerOf (fitStatus model i workspace₀ beta₀) (fitOn model i)

@@ -8,7 +8,7 @@ ghost use Rattle.model_fit.specs.Input.{inputOf, tableOf, queries, fitRoom};
 ghost use Rattle.matrix.specs.Lists.{overwritten};
 ghost use Rattle.model_fit.specs.Shared.{Numbered, Checked};
 ghost use Rattle.models.specs.Prediction.{largest, isSolved, predictionOf, errorOf};
-ghost use Rattle.models.specs.Call.{predictRoom, FittedWithin, FitCall, PredictCall};
+ghost use Rattle.models.specs.Call.{predictRoom, FittedWithin, PredictedWithin, FitCall, PredictCall};
 use crate::FitAnswer;
 use embedding::Model;
 use matrix::PeptideIx;
@@ -192,6 +192,59 @@ fn is_solved(outcome: FitOutcome) -> bool
     }
 }
 
+// Fits the model of a call that passed the checks and, where that is solved, writes predictions and errors.
+fn predict_accepted(
+    model: Model,
+    peptide: &[u32],
+    label: &[i32],
+    q: &[f32],
+    charge: &[u8],
+    observed: &[f32],
+    letters: &[u8],
+    offsets: &[u32],
+    masses: &[f32],
+    logs: &[f64],
+    workspace: &mut [f64],
+    beta: &mut [f64],
+    predicted: &mut [f32],
+    error: &mut [f32],
+) -> FitOutcome
+    requires { ⌜ Checked (inputOf (now peptide) (now label) (now q) (now charge) (now observed) (now letters) (now offsets) (now masses) (now logs)) ⌝ }
+    requires { ⌜ predictRoom model (length (now peptide)) (length (now workspace)) (length (now beta)) (length (now predicted)) (length (now error)) ≡ true ⌝ }
+    ensures { λ r. ⌜ PredictedWithin model (inputOf (now (peptide .entry)) (now (label .entry)) (now (q .entry)) (now (charge .entry)) (now (observed .entry)) (now (letters .entry)) (now (offsets .entry)) (now (masses .entry)) (now (logs .entry))) (now (workspace .entry)) (now (workspace .exit)) (now (beta .entry)) (now (beta .exit)) (now (predicted .entry)) (now (predicted .exit)) (now (error .entry)) (now (error .exit)) r ⌝ }
+{
+    let outcome = fit_accepted(
+        model,
+        peptide,
+        label,
+        q,
+        charge,
+        observed,
+        letters,
+        offsets,
+        masses,
+        logs,
+        workspace,
+        beta,
+    );
+    if is_solved(outcome) {
+        let d = embedding::order(model);
+        write_predictions(
+            model,
+            peptide,
+            charge,
+            letters,
+            offsets,
+            masses,
+            logs,
+            &beta[..d],
+            predicted,
+        );
+        write_errors(observed, predicted, error);
+    }
+    outcome
+}
+
 // Checks a call, fits the model and, where that is solved, writes predictions and errors.
 pub(crate) fn predict(
     model: Model,
@@ -235,7 +288,7 @@ pub(crate) fn predict(
     if status != feature::ACCEPTED {
         return FitAnswer::Refused(status);
     }
-    let outcome = fit_accepted(
+    FitAnswer::Fitted(predict_accepted(
         model,
         peptide,
         label,
@@ -248,21 +301,7 @@ pub(crate) fn predict(
         logs,
         workspace,
         beta,
-    );
-    if is_solved(outcome) {
-        let d = embedding::order(model);
-        write_predictions(
-            model,
-            peptide,
-            charge,
-            letters,
-            offsets,
-            masses,
-            logs,
-            &beta[..d],
-            predicted,
-        );
-        write_errors(observed, predicted, error);
-    }
-    FitAnswer::Fitted(outcome)
+        predicted,
+        error,
+    ))
 }
