@@ -2,14 +2,17 @@
 use mathlib.Core.Path.{_≡_, refl, sym, ap, _∙_}
 use mathlib.Core.List.{List, [], _∷_, _++_}
 use Prim.Native.Nat.{ℕ, zero, suc, _+_, _-_, _*_, _≤_, _<_}
-use native.Mathlib.Nat.{le-refl, le-of-eq, le-of-suc-le-suc, not-suc-le-zero, mul-le-mul-right}
+use native.Mathlib.Nat.{add-sub-cancel-left, le-refl, le-of-eq, le-of-suc-le-suc, not-suc-le-zero, mul-le-mul-right}
+use native.Mathlib.Numerals.{add-one}
 use native.Mathlib.Omega.{arith}
 use lib.ListN.{length, take, drop, set}
 use lib.Seq.{length-take-le}
 use Rattle.matrix.specs.Rows.{rowsOf}
-use Rattle.matrix.proofs.Laws.{row-rowsOf, rowsOf-put-row, rowsOf-append-add, rowsOf-take, take-rowsOf, drop-rowsOf}
+use borrow.Rule.Slice.PartMut.{same-len-mid}
+use Rattle.matrix.proofs.Laws.{row-end, row-rowsOf, rowsOf-put-row, rowsOf-append-add, rowsOf-take, take-rowsOf, drop-rowsOf}
 use Rattle.elimination.specs.Rows.{rowOf, augmented}
 use Rattle.elimination.proofs.Made.{made, made-suc}
+use Rattle.elimination.proofs.Parts.{part-length}
 
 -- the start of the next row
 pub next-start : (a i w : ℕ) → a ≡ i * w → a + w ≡ (i + 1) * w
@@ -23,6 +26,28 @@ row-turn g rows i m w a k xs r inv h l ea ek er e =
     let part : take k (drop a xs) ≡ rowOf (rowsOf w m xs) i = rw (ea, ek) (sym (row-rowsOf w m i xs h)) in
     let is : r ≡ g i (rowOf (rowsOf w m xs) i) = e ∙ ap (g i) part in
     rw (ea, ek) (rowsOf-put-row w m i r xs h (omega arith) er ∙ ap (set (rowsOf w m xs) i) is ∙ rw inv (made-suc g i rows []))
+
+-- The first i of m rows of w cells are made anew by g, row i begins at `at`, and the length is as it was.
+abbrev pub RowsMade : {A : Type 0} → (w m : ℕ) → (ℕ → List A → List A) → (xs₀ xs : List A) → (at i : ℕ) → Type 0
+RowsMade w m g xs₀ xs at i = (i ≤ m) × (at ≡ i * w) × (rowsOf w m xs ≡ made g i (rowsOf w m xs₀)) × (length xs ≡ length xs₀)
+
+module _ {A : Type 0} (w m : ℕ) (g : ℕ → List A → List A) (xs₀ xs : List A) (at i : ℕ) (inv : RowsMade w m g xs₀ xs at i) (h : i < m) (whole : length xs₀ ≡ m * w) where
+  -- row i ends within the list, and the part from `at` on is a row
+  pub row-fits : at + w ≤ length xs
+  row-fits = omega (arith, row-end w m i h, inv .1, inv .3)
+
+  pub row-part : length (take (at + w - at) (drop at xs)) ≡ w
+  row-part = part-length at (at + w - at) xs (omega (arith, row-fits)) ∙ add-sub-cancel-left at w
+
+  -- one row more: the part was lent, and came back made anew
+  pub next-row : (r : List A) → length r ≡ length (take (at + w - at) (drop at xs)) → r ≡ g i (take (at + w - at) (drop at xs))
+      → RowsMade w m g xs₀ (take at xs ++ (r ++ drop (at + w - at) (drop at xs))) (at + w) (i + 1)
+  next-row r kept e = (
+    omega arith,
+    next-start at i w (inv .1),
+    rw add-one (row-turn g (rowsOf w m xs₀) i m w at (at + w - at) xs r (inv .2) h (inv .3 ∙ whole) (inv .1) (add-sub-cancel-left at w) (kept ∙ row-part) e),
+    same-len-mid at (at + w - at) xs r kept ∙ inv .3,
+  )
 
 module _ {A : Type 0} (w n i : ℕ) (cells part : List A) (h : i ≤ n) where
   -- the rows from row i on replaced

@@ -30,12 +30,6 @@ part (suc a) (suc e) (x ∷ xs) h = ap (λ (k : ℕ). take k (drop a xs)) (suc-s
 abbrev pub returned : {A : Type 0} → (a w : ℕ) → (row back : List A) → List A
 returned a w row back = take a row ++ (back ++ drop w (drop a row))
 
-pub same-size : {A : Type 0} (a w : ℕ) (row back : List A) → length back ≡ length (take w (drop a row)) → a + w ≤ length row → length (returned a w row back) ≡ length row
-same-size a w row back e h =
-    let n : length (take w (drop a row)) ≡ w = length-take-le w (drop a row) (rw length-drop (omega arith)) in
-    let m : length (take a row) ≡ a = length-take-le a row (omega arith) in
-    simp (length-append, length-drop) (omega arith)
-
 -- ---- blocks
 
 -- the row's first cells are those of `done`, a of them, and the others are as they were

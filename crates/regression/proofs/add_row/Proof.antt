@@ -13,7 +13,7 @@ use Rattle.matrix.proofs.Laws.{row-end, is-flat, length-rowsOf}
 use Rattle.matrix.specs.Lists.{zipped}
 use Rattle.elimination.proofs.Made.{made-none, made-zipped}
 use Rattle.regression.specs.Regression.{plusScaled}
-use Rattle.regression.proofs.Rows.{RowsMade, next-row}
+use Rattle.elimination.proofs.Rows.{RowsMade, row-fits, next-row}
 use borrow.Author.Needs.{needs}
 use Rattle.regression.proofs.add_row.Statement.{statement}
 use Rattle.regression.proofs.add_row.Tie as tie
@@ -29,7 +29,7 @@ abbrev μ-loop : tie.MeasureT-loop
 μ-loop acc₀ ext w start₀ j₀ acc start j = length ext - j
 
 loop-holds : tie.Need-loop-holds Inv-loop μ-loop
-loop-holds c = (sym (zero-mul _), search needs, refl, made-none _ _)
+loop-holds c = (search needs, sym (zero-mul _), made-none _ _, refl)
 
 add-loop : tie.Need-add-loop Inv-loop μ-loop
 add-loop c = search needs
@@ -76,7 +76,7 @@ loop-again c =
     let a = c .before .before .before .before .before .before .before .before .before .args in
     let done = c .before .before .add-scaled in
     let w : ℕ = length (now (a .ext)) in
-    next-row w (w - 1) (scaled (now (a .ext))) (now (a .acc)) (l .acc) (done .last .0) (l .start) (l .j) (l .inv) (omega arith) (omega arith) (done .ensures) (done .kept .0)
+    next-row w (w - 1) (scaled (now (a .ext))) (now (a .acc)) (l .acc) (l .start) (l .j) (l .inv) (omega arith) (omega arith) (done .last .0) (done .kept .0) (done .ensures)
 
 same-length : tie.Need-same-length Inv-loop μ-loop
 same-length c = search needs
@@ -87,7 +87,7 @@ returns c =
     let a = c .before .before .before .before .args in
     let w : ℕ = length (now (a .ext)) in
     is-flat w (w - 1) (l .acc) _ (omega arith)
-    (l .inv .3 ∙ made-zipped (λ row x. zipped (plusScaled x) row (now (a .ext))) nan (l .j) (rowsOf w (w - 1) (now (a .acc))) (now (a .ext)) (simp length-rowsOf (omega arith)) (simp length-rowsOf (omega arith)))
+    (l .inv .2 ∙ made-zipped (λ row x. zipped (plusScaled x) row (now (a .ext))) nan (l .j) (rowsOf w (w - 1) (now (a .acc))) (now (a .ext)) (simp length-rowsOf (omega arith)) (simp length-rowsOf (omega arith)))
 
 pub add-row-spec : {M : Type 1} → statement M
 add-row-spec =

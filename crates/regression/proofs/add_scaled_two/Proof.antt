@@ -12,8 +12,7 @@ use lib.Ieee.{Float, nan}
 use Rattle.matrix.specs.Lists.{zipped}
 use Rattle.matrix.proofs.Lists.{length-zipped}
 use Rattle.regression.specs.Regression.{plusScaled}
-use Rattle.elimination.proofs.Made.{made, made-none, made-suc, made-zipped, length-made}
-use Rattle.regression.proofs.Rows.{made-twice}
+use Rattle.elimination.proofs.Made.{made, made-none, made-suc, made-twice, made-zipped}
 use Rattle.regression.proofs.add_scaled_two.Statement.{statement}
 use Rattle.regression.proofs.add_scaled_two.Tie as tie
 

@@ -12,9 +12,9 @@ use Rattle.matrix.specs.Rows.{rowsOf}
 use Rattle.matrix.specs.Lists.{zipped}
 use Rattle.matrix.proofs.Laws.{row-end, is-flat, length-rowsOf}
 use Rattle.matrix.proofs.Lists.{length-zipped}
-use Rattle.elimination.proofs.Made.{made, made-none, made-zipped}
+use Rattle.elimination.proofs.Made.{made, made-none, made-twice, made-zipped}
 use Rattle.regression.specs.Regression.{plusScaled, addRow}
-use Rattle.regression.proofs.Rows.{RowsMade, next-row, made-twice}
+use Rattle.elimination.proofs.Rows.{RowsMade, row-fits, next-row}
 use borrow.Author.Needs.{needs}
 use Rattle.regression.proofs.add_two_rows.Statement.{statement}
 use Rattle.regression.proofs.add_two_rows.Tie as tie
@@ -48,7 +48,7 @@ both first second n j old l f e h =
     ∙ made-zipped (λ row x. zipped (plusScaled x) row second) nan j (addRow old first) second (omega arith) (omega arith)
 
 loop-holds : tie.Need-loop-holds Inv-loop μ-loop
-loop-holds c = (sym (zero-mul _), search needs, refl, made-none _ _)
+loop-holds c = (search needs, sym (zero-mul _), made-none _ _, refl)
 
 add-loop : tie.Need-add-loop Inv-loop μ-loop
 add-loop c = search needs
@@ -95,7 +95,7 @@ loop-again c =
     let a = c .before .before .before .before .before .before .before .before .before .before .before .args in
     let done = c .before .before .add-scaled-two in
     let w : ℕ = length (now (a .first)) in
-    next-row w (w - 1) (λ i row. scaled (now (a .second)) i (scaled (now (a .first)) i row)) (now (a .acc)) (l .acc) (done .last .0) (l .start) (l .j) (l .inv) (omega arith) (omega arith) (done .ensures) (done .kept .0)
+    next-row w (w - 1) (λ i row. scaled (now (a .second)) i (scaled (now (a .first)) i row)) (now (a .acc)) (l .acc) (l .start) (l .j) (l .inv) (omega arith) (omega arith) (done .last .0) (done .kept .0) (done .ensures)
 
 same-length : tie.Need-same-length Inv-loop μ-loop
 same-length c = search needs
@@ -107,7 +107,7 @@ returns c =
     let a = s .args in
     let w : ℕ = length (now (a .first)) in
     is-flat w (w - 1) (l .acc) _ (omega arith)
-    (l .inv .3 ∙ both (now (a .first)) (now (a .second)) (w - 1) (l .j) (rowsOf w (w - 1) (now (a .acc))) (length-rowsOf _ _ _) (omega arith) (s .pre .1) (omega arith))
+    (l .inv .2 ∙ both (now (a .first)) (now (a .second)) (w - 1) (l .j) (rowsOf w (w - 1) (now (a .acc))) (length-rowsOf _ _ _) (omega arith) (s .pre .1) (omega arith))
 
 pub add-two-rows-spec : {M : Type 1} → statement M
 add-two-rows-spec =

@@ -1,47 +1,51 @@
--- `elimination::echelon::clear_rows` meets its contract. The loop's invariant: column k is cleared in the first i rows (`made i`), and row i starts at `at`.
--- Assumes nothing.
-use mathlib.Core.Path.{_≡_, refl, sym, ap, _∙_}
-use mathlib.Core.List.{List, []}
-use Prim.Native.Nat.{ℕ, suc, _+_, _*_, _≤_, _<_, _-_}
-use native.Mathlib.Nat.{zero-mul, add-sub-cancel-left}
+-- `elimination::echelon::clear_rows` meets its contract. The loop's invariant: column k is cleared in the first i rows (`RowsMade`). Assumes nothing.
+use mathlib.Core.Path.{_≡_, refl, sym, _∙_}
+use mathlib.Core.List.{List}
+use Prim.Native.Nat.{ℕ, _+_, _≤_, _-_}
+use native.Mathlib.Nat.{zero-mul}
 use native.Mathlib.Omega.{arith}
-use native.Mathlib.Numerals.{add-one}
 use lib.ListN.{length, take, drop}
 use lib.Ieee.{Float}
 use denote.Ref.{now}
-use borrow.Rule.Slice.PartMut.{same-len-mid}
-use Rattle.matrix.specs.Rows.{rowsOf}
-use Rattle.matrix.proofs.Laws.{row-end, length-rowsOf}
+use Rattle.matrix.proofs.Laws.{length-rowsOf}
 use Rattle.elimination.specs.Elimination.{cleared}
-use Rattle.elimination.proofs.Made.{made, made-none, made-map}
-use Rattle.elimination.proofs.Parts.{part-length}
-use Rattle.elimination.proofs.Rows.{row-turn}
+use Rattle.elimination.proofs.Made.{made-none, made-map}
+use Rattle.elimination.proofs.Rows.{RowsMade, row-fits, row-part, next-row}
 use borrow.Author.Needs.{needs}
 use Rattle.elimination.proofs.echelon.clear_rows.Statement.{statement}
 use Rattle.elimination.proofs.echelon.clear_rows.Tie as tie
 
 abbrev Inv-loop : tie.InvT-loop
-Inv-loop cells₀ m pivot k w i₀ at₀ cells i at = (i ≤ m) × (at ≡ i * w) × (rowsOf w m cells ≡ made (λ j. cleared k pivot) i (rowsOf w m cells₀)) × (length cells ≡ length cells₀)
+Inv-loop cells₀ m pivot k w i₀ at₀ cells i at = RowsMade w m (λ j. cleared k pivot) cells₀ cells at i
 
 abbrev μ-loop : tie.MeasureT-loop
 μ-loop cells₀ m pivot k w i₀ at₀ cells i at = m - i
+
+-- in a turn of the loop: what was passed, the row's end, and that the part is a row
+module _ (c : tie.In-loop Inv-loop μ-loop) where
+  abbrev s : tie.Start Inv-loop μ-loop
+  s = c .before .before .before .before
+
+  abbrev w : ℕ
+  w = length (now (s .args .pivot))
+
+  abbrev g : ℕ → List Float → List Float
+  g = λ j. cleared (s .args .k) (now (s .args .pivot))
+
+  fits : c .before .loop .at + w ≤ length (c .before .loop .cells)
+  fits = row-fits w (s .args .m) g (now (s .args .cells)) (c .before .loop .cells) (c .before .loop .at) (c .before .loop .i) (c .before .loop .inv) (c .loop-test .taken) (s .pre .0)
+
+  row : let l = c .before .loop in length (take (l .at + w - l .at) (drop (l .at) (l .cells))) ≡ w
+  row = row-part w (s .args .m) g (now (s .args .cells)) (c .before .loop .cells) (c .before .loop .at) (c .before .loop .i) (c .before .loop .inv) (c .loop-test .taken) (s .pre .0)
 
 loop-holds : tie.Need-loop-holds Inv-loop μ-loop
 loop-holds c = (search needs, sym (zero-mul _), made-none _ _, refl)
 
 add-end : tie.Need-add-end Inv-loop μ-loop
-add-end c =
-    let l = c .before in
-    let s = l .before .before .before in
-    let e = row-end (length (now (s .args .pivot))) (s .args .m) (l .loop .i) (c .loop-test .taken) in
-    omega (arith, s .pre .0)
+add-end c = omega (arith, fits c)
 
 mul-clear-column : tie.Need-mul-clear-column Inv-loop μ-loop
-mul-clear-column c =
-    let l = c .before in
-    let s = l .before .before .before in
-    let e = row-end (length (now (s .args .pivot))) (s .args .m) (l .loop .i) (c .loop-test .taken) in
-    omega (arith, s .pre .0)
+mul-clear-column c = omega (arith, fits c)
 
 sub-clear-column : tie.Need-sub-clear-column Inv-loop μ-loop
 sub-clear-column c = omega arith
@@ -50,22 +54,10 @@ part-clear-column-start : tie.Need-part-clear-column-start Inv-loop μ-loop
 part-clear-column-start c = omega arith
 
 part-clear-column-end : tie.Need-part-clear-column-end Inv-loop μ-loop
-part-clear-column-end c =
-    let l = c .before in
-    let s = l .before .before .before in
-    let e = row-end (length (now (s .args .pivot))) (s .args .m) (l .loop .i) (c .loop-test .taken) in
-    omega (arith, s .pre .0)
+part-clear-column-end c = omega (arith, fits c)
 
 clear-column-requires : tie.Need-clear-column-requires Inv-loop μ-loop
-clear-column-requires c κs =
-    let l = c .before .before in
-    let s = l .before .before .before in
-    let e = row-end (length (now (s .args .pivot))) (s .args .m) (l .loop .i) (c .before .loop-test .taken) in
-    let size = s .pre .0 in
-    let k : ℕ = l .loop .at + length (now (s .args .pivot)) - l .loop .at in
-    let p : length (take k (drop (l .loop .at) (l .loop .cells))) ≡ length (now (s .args .pivot)) =
-    part-length (l .loop .at) k (l .loop .cells) (omega arith) ∙ add-sub-cancel-left (l .loop .at) (length (now (s .args .pivot))) in
-    (omega arith, p)
+clear-column-requires c κs = let t = c .before in (omega (arith, row t, s t .pre .1), row t)
 
 add-i : tie.Need-add-i Inv-loop μ-loop
 add-i c = search needs
@@ -75,20 +67,10 @@ loop-less c = search needs
 
 loop-again : tie.Need-loop-again Inv-loop μ-loop
 loop-again c =
-    let l = c .before .before .before .before .before in
-    let s = l .before .before .before in
-    let e = row-end (length (now (s .args .pivot))) (s .args .m) (l .loop .i) (c .before .before .before .before .loop-test .taken) in
-    let b = c .before .before in
-    let size = s .pre .0 in
-    let k : ℕ = l .loop .at + length (now (s .args .pivot)) - l .loop .at in
-    let p : length (take k (drop (l .loop .at) (l .loop .cells))) ≡ length (now (s .args .pivot)) =
-    part-length (l .loop .at) k (l .loop .cells) (omega arith) ∙ add-sub-cancel-left (l .loop .at) (length (now (s .args .pivot))) in (
-      omega arith,
-      omega arith,
-      rw add-one
-          (row-turn (λ j. cleared (s .args .k) (now (s .args .pivot))) (rowsOf (length (now (s .args .pivot))) (s .args .m) (now (s .args .cells))) (l .loop .i) (s .args .m) (length (now (s .args .pivot))) (l .loop .at) k (l .loop .cells) (b .clear-column .last .0) (l .loop .inv .2) (c .before .before .before .before .loop-test .taken) (l .loop .inv .3 ∙ s .pre .0) (l .loop .inv .1) (add-sub-cancel-left (l .loop .at) (length (now (s .args .pivot)))) (b .clear-column .kept .0 ∙ p) (b .clear-column .ensures)),
-      same-len-mid (l .loop .at) k (l .loop .cells) (b .clear-column .last .0) (b .clear-column .kept .0) ∙ l .loop .inv .3,
-    )
+    let t = c .before .before .before .before in
+    let l = t .before .loop in
+    let done = c .before .before .clear-column in
+    next-row (w t) (s t .args .m) (g t) (now (s t .args .cells)) (l .cells) (l .at) (l .i) (l .inv) (t .loop-test .taken) (s t .pre .0) (done .last .0) (done .kept .0) (done .ensures)
 
 same-length : tie.Need-same-length Inv-loop μ-loop
 same-length c = c .before .loop .inv .3

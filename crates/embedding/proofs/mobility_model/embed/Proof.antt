@@ -5,6 +5,7 @@ use native.Mathlib.Omega.{arith}
 use lib.Ieee.{Float}
 use lib.ListN.{length, length-map}
 use borrow.Author.Needs.{needs}
+use borrow.Rule.Slice.PartMut.{same-len-mid}
 use denote.Ref.{now}
 use Rattle.embedding.specs.declared.Model.the-variants.{Mobility}
 use Rattle.embedding.specs.Classes.{classCounts}
@@ -12,7 +13,7 @@ use Rattle.float.specs.Number.{number}
 use Rattle.embedding.specs.Design.{nTerminal, cTerminal, everywhere, counts, block, share, shareOf, mobilityScalars, mobilityRow}
 use Rattle.embedding.proofs.Classes.{length-classCounts, classes-written}
 use Rattle.embedding.proofs.Positions.{chosen-le}
-use Rattle.embedding.proofs.Rows.{done-none, next-block, length-block, length-counts, returned, same-size, copied, made, embedded}
+use Rattle.embedding.proofs.Rows.{done-none, next-block, length-block, length-counts, returned, copied, made, embedded}
 use Rattle.embedding.proofs.mobility_model.embed.Statement.{statement}
 use Rattle.embedding.proofs.mobility_model.embed.Tie as tie
 
@@ -115,19 +116,19 @@ part-put-scalars-end c =
     let s = c .before .before .before .before .before .before .before .before .before .before .before .before .before .before .before .before .before .before .before .before .before .before .before .before .before .before .before .before .before .before in
     let r0 : List Float = now (s .args .row) in
     let b1 : List Float = c .before .before .before .before .before .before .before .before .before .before .before .before .before .before .before .before .before .before .before .before .before .before .put-counts .last .1 .0 in
-    let n1 = same-size 0 22 r0 b1 (c .before .before .before .before .before .before .before .before .before .before .before .before .before .before .before .before .before .before .before .before .before .before .put-counts .kept .1 .0) (omega (arith, s .pre .1)) in
+    let n1 = same-len-mid 0 22 r0 b1 (c .before .before .before .before .before .before .before .before .before .before .before .before .before .before .before .before .before .before .before .before .before .before .put-counts .kept .1 .0) in
     let r1 : List Float = returned 0 22 r0 b1 in
     let b2 : List Float = c .before .before .before .before .before .before .before .before .before .before .before .before .before .before .before .before .before .put-shares .last .1 .1 .0 in
-    let n2 = same-size 22 22 r1 b2 (c .before .before .before .before .before .before .before .before .before .before .before .before .before .before .before .before .before .put-shares .kept .1 .1 .0) (omega (arith, s .pre .1, n1)) in
+    let n2 = same-len-mid 22 22 r1 b2 (c .before .before .before .before .before .before .before .before .before .before .before .before .before .before .before .before .before .put-shares .kept .1 .1 .0) in
     let r2 : List Float = returned 22 22 r1 b2 in
     let b3 : List Float = c .before .before .before .before .before .before .before .before .before .before .before .before .embed-part2 .last .1 .0 in
-    let n3 = same-size 44 22 r2 b3 (c .before .before .before .before .before .before .before .before .before .before .before .before .embed-part2 .kept .1 .0) (omega (arith, s .pre .1, n1, n2)) in
+    let n3 = same-len-mid 44 22 r2 b3 (c .before .before .before .before .before .before .before .before .before .before .before .before .embed-part2 .kept .1 .0) in
     let r3 : List Float = returned 44 22 r2 b3 in
     let b4 : List Float = c .before .before .before .before .before .before .before .embed-part3 .last .1 .0 in
-    let n4 = same-size 66 22 r3 b4 (c .before .before .before .before .before .before .before .embed-part3 .kept .1 .0) (omega (arith, s .pre .1, n1, n2, n3)) in
+    let n4 = same-len-mid 66 22 r3 b4 (c .before .before .before .before .before .before .before .embed-part3 .kept .1 .0) in
     let r4 : List Float = returned 66 22 r3 b4 in
     let b5 : List Float = c .before .before .put-classes .last .1 .0 in
-    let n5 = same-size 88 6 r4 b5 (c .before .before .put-classes .kept .1 .0) (omega (arith, s .pre .1, n1, n2, n3, n4)) in
+    let n5 = same-len-mid 88 6 r4 b5 (c .before .before .put-classes .kept .1 .0) in
     omega (arith, s .pre .1, n1, n2, n3, n4, n5)
 
 put-scalars-requires : tie.Need-put-scalars-requires
