@@ -31,23 +31,27 @@ row-turn g rows i m w a k xs r inv h l ea ek er e =
 abbrev pub RowsMade : {A : Type 0} → (w m : ℕ) → (ℕ → List A → List A) → (xs₀ xs : List A) → (at i : ℕ) → Type 0
 RowsMade w m g xs₀ xs at i = (i ≤ m) × (at ≡ i * w) × (rowsOf w m xs ≡ made g i (rowsOf w m xs₀)) × (length xs ≡ length xs₀)
 
-module _ {A : Type 0} (w m : ℕ) (g : ℕ → List A → List A) (xs₀ xs : List A) (at i : ℕ) (inv : RowsMade w m g xs₀ xs at i) (h : i < m) (whole : length xs₀ ≡ m * w) where
-  -- row i ends within the list, and the part from `at` on is a row
-  pub row-fits : at + w ≤ length xs
-  row-fits = omega (arith, row-end w m i h, inv .1, inv .3)
-
-  pub row-part : length (take (at + w - at) (drop at xs)) ≡ w
-  row-part = part-length at (at + w - at) xs (omega (arith, row-fits)) ∙ add-sub-cancel-left at w
-
-  -- one row more: the part was lent, and came back made anew
-  pub next-row : (r : List A) → length r ≡ length (take (at + w - at) (drop at xs)) → r ≡ g i (take (at + w - at) (drop at xs))
+-- A turn of the loop, at row i: the part from `at` on is lent. It lies within the list and is a row; made anew, it leaves one row more made anew.
+pub record Turn {A : Type 0} (w m : ℕ) (g : ℕ → List A → List A) (xs₀ xs : List A) (at i : ℕ) : Type 0 where
+  pub fits : at + w ≤ length xs
+  pub part : length (take (at + w - at) (drop at xs)) ≡ w
+  pub next : (r : List A) → length r ≡ length (take (at + w - at) (drop at xs)) → r ≡ g i (take (at + w - at) (drop at xs))
       → RowsMade w m g xs₀ (take at xs ++ (r ++ drop (at + w - at) (drop at xs))) (at + w) (i + 1)
-  next-row r kept e = (
-    omega arith,
-    next-start at i w (inv .1),
-    rw add-one (row-turn g (rowsOf w m xs₀) i m w at (at + w - at) xs r (inv .2) h (inv .3 ∙ whole) (inv .1) (add-sub-cancel-left at w) (kept ∙ row-part) e),
-    same-len-mid at (at + w - at) xs r kept ∙ inv .3,
-  )
+
+pub turn : {A : Type 0} (w m : ℕ) (g : ℕ → List A → List A) (xs₀ xs : List A) (at i : ℕ) → RowsMade w m g xs₀ xs at i → i < m → length xs₀ ≡ m * w → Turn w m g xs₀ xs at i
+turn w m g xs₀ xs at i inv h whole =
+    let f : at + w ≤ length xs = omega (arith, row-end w m i h, inv .1, inv .3) in
+    let p : length (take (at + w - at) (drop at xs)) ≡ w = part-length at (at + w - at) xs (omega arith) ∙ add-sub-cancel-left at w in
+    record {
+      fits = f;
+      part = p;
+      next = λ r kept e. (
+        omega arith,
+        next-start at i w (inv .1),
+        rw add-one (row-turn g (rowsOf w m xs₀) i m w at (at + w - at) xs r (inv .2) h (inv .3 ∙ whole) (inv .1) (add-sub-cancel-left at w) (kept ∙ p) e),
+        same-len-mid at (at + w - at) xs r kept ∙ inv .3,
+      );
+    }
 
 module _ {A : Type 0} (w n i : ℕ) (cells part : List A) (h : i ≤ n) where
   -- the rows from row i on replaced

@@ -10,7 +10,6 @@ use lib.Dec.{lit≤}
 use lib.Ieee.{Float, binary64, add, ofBits, ofInt}
 use lib.ListN.{length, length-append, getD, set, take, drop, replicate, length-take, length-drop, take-append-drop}
 use lib.Seq.{length-take-le, take-nil, take-at, drop-at, drop-append-le, drop-drop}
-use Rattle.mass.specs.Mass.{columnOf}
 use Rattle.matrix.specs.Lists.{overwritten}
 use Rattle.embedding.specs.Count.{howMany, range, tallied}
 use Rattle.float.specs.Number.{number, zero64}

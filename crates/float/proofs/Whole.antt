@@ -1,10 +1,9 @@
 -- The sum of two whole numbers, each of which its format holds, is the whole number of their sum, rounded once. Assumes nothing.
-use mathlib.Core.Path.{_≡_, refl, sym, ap, ap₂, _∙_}
+use mathlib.Core.Path.{_≡_, sym, ap, ap₂, _∙_}
 use mathlib.Core.Bool.{false}
-use Prim.Native.Nat.{ℕ, _+_, _*_, _^_, _≤_, _<_}
-use native.Mathlib.Nat.{mul-one, mul-pos, mul-assoc, mul-comm, mul-right-comm, add-mul, zero-lt-suc}
-use lib.IntN.{ℤ, pos}
-use lib.Ieee.{Float, nan, inf, fin, Format, prec, up, down, binary64, round, add, ofInt}
+use Prim.Native.Nat.{ℕ, _+_, _*_, _^_, _≤_}
+use native.Mathlib.Nat.{mul-one, mul-pos, mul-assoc, mul-comm, add-mul, zero-lt-suc}
+use lib.Ieee.{Float, nan, inf, fin, Format, up, down, binary64, round, add, ofInt}
 use lib.Ieee.Back.{round-whole}
 use lib.Ieee.Exact.{HasValue}
 use lib.Ieee.Positive.{den-pos}

@@ -15,7 +15,7 @@ use Rattle.regression.specs.Regression.{Sample, extended, normal, addRow}
 use Rattle.regression.proofs.Laws.{add-row-normal, add-two-rows-normal}
 use Rattle.model_fit.specs.Input.{Query}
 use Rattle.model_fit.specs.Samples.{designOf}
-use Rattle.model_fit.specs.Shared.{HeldBack, Summed}
+use Rattle.model_fit.specs.Shared.{Summed}
 
 -- a design row has the model's order
 pub wide-design : (model : Model) (t : Table) (q : Query) → length (designOf model t q) ≡ orderOf model

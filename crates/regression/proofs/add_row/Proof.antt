@@ -2,18 +2,18 @@
 -- Assumes nothing.
 use mathlib.Core.Path.{refl, sym, _∙_}
 use mathlib.Core.List.{List}
-use Prim.Native.Nat.{ℕ, _+_, _≤_, _-_}
+use Prim.Native.Nat.{ℕ, _-_}
 use native.Mathlib.Omega.{arith}
 use lib.ListN.{length, getD}
 use native.Mathlib.Nat.{zero-mul}
 use lib.Ieee.{Float, nan}
 use denote.Ref.{now}
 use Rattle.matrix.specs.Rows.{rowsOf}
-use Rattle.matrix.proofs.Laws.{row-end, is-flat, length-rowsOf}
+use Rattle.matrix.proofs.Laws.{is-flat, length-rowsOf}
 use Rattle.matrix.specs.Lists.{zipped}
 use Rattle.elimination.proofs.Made.{made-none, made-zipped}
 use Rattle.regression.specs.Regression.{plusScaled}
-use Rattle.elimination.proofs.Rows.{RowsMade, row-fits, next-row}
+use Rattle.elimination.proofs.Rows.{RowsMade, Turn, turn}
 use borrow.Author.Needs.{needs}
 use Rattle.regression.proofs.add_row.Statement.{statement}
 use Rattle.regression.proofs.add_row.Tie as tie
@@ -34,17 +34,19 @@ loop-holds c = (search needs, sym (zero-mul _), made-none _ _, refl)
 add-loop : tie.Need-add-loop Inv-loop μ-loop
 add-loop c = search needs
 
--- the row's end
-fits : (c : tie.In-loop Inv-loop μ-loop) → c .before .loop .start + length (now (c .before .before .before .before .args .ext)) ≤ length (c .before .loop .acc)
-fits c =
-    let w : ℕ = length (now (c .before .before .before .before .args .ext)) in
-    omega (arith, row-end w (w - 1) (c .before .loop .j) (omega arith))
+-- a turn of the loop
+here : (c : tie.In-loop Inv-loop μ-loop) → let a = c .before .before .before .before .args in let l = c .before .loop in let w = length (now (a .ext)) in Turn w (w - 1) (scaled (now (a .ext))) (now (a .acc)) (l .acc) (l .start) (l .j)
+here c =
+    let a = c .before .before .before .before .args in
+    let l = c .before .loop in
+    let w = length (now (a .ext)) in
+    turn w (w - 1) (scaled (now (a .ext))) (now (a .acc)) (l .acc) (l .start) (l .j) (l .inv) (omega arith) (omega arith)
 
 add-end : tie.Need-add-end Inv-loop μ-loop
-add-end c = omega (arith, fits c)
+add-end c = omega (arith, here c .fits)
 
 mul-add-scaled : tie.Need-mul-add-scaled Inv-loop μ-loop
-mul-add-scaled c = omega (arith, fits c)
+mul-add-scaled c = omega (arith, here c .fits)
 
 sub-add-scaled : tie.Need-sub-add-scaled Inv-loop μ-loop
 sub-add-scaled c = search needs
@@ -53,7 +55,7 @@ part-add-scaled-start : tie.Need-part-add-scaled-start Inv-loop μ-loop
 part-add-scaled-start c = search needs
 
 part-add-scaled-end : tie.Need-part-add-scaled-end Inv-loop μ-loop
-part-add-scaled-end c = omega (arith, fits c)
+part-add-scaled-end c = omega (arith, here c .fits)
 
 mul-add-scaled-2 : tie.Need-mul-add-scaled-2 Inv-loop μ-loop
 mul-add-scaled-2 c = search needs
@@ -71,12 +73,7 @@ loop-less : tie.Need-loop-less Inv-loop μ-loop
 loop-less c = search needs
 
 loop-again : tie.Need-loop-again Inv-loop μ-loop
-loop-again c =
-    let l = c .before .before .before .before .before .before .loop in
-    let a = c .before .before .before .before .before .before .before .before .before .args in
-    let done = c .before .before .add-scaled in
-    let w : ℕ = length (now (a .ext)) in
-    next-row w (w - 1) (scaled (now (a .ext))) (now (a .acc)) (l .acc) (l .start) (l .j) (l .inv) (omega arith) (omega arith) (done .last .0) (done .kept .0) (done .ensures)
+loop-again c = let done = c .before .before .add-scaled in here (c .before .before .before .before .before) .next (done .last .0) (done .kept .0) (done .ensures)
 
 same-length : tie.Need-same-length Inv-loop μ-loop
 same-length c = search needs

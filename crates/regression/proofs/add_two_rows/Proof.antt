@@ -2,7 +2,7 @@
 -- Assumes nothing.
 use mathlib.Core.Path.{_≡_, refl, sym, ap, _∙_}
 use mathlib.Core.List.{List}
-use Prim.Native.Nat.{ℕ, _+_, _≤_, _-_}
+use Prim.Native.Nat.{ℕ, _≤_, _-_}
 use native.Mathlib.Nat.{zero-mul}
 use native.Mathlib.Omega.{arith}
 use lib.ListN.{length, getD}
@@ -10,11 +10,11 @@ use lib.Ieee.{Float, nan}
 use denote.Ref.{now}
 use Rattle.matrix.specs.Rows.{rowsOf}
 use Rattle.matrix.specs.Lists.{zipped}
-use Rattle.matrix.proofs.Laws.{row-end, is-flat, length-rowsOf}
+use Rattle.matrix.proofs.Laws.{is-flat, length-rowsOf}
 use Rattle.matrix.proofs.Lists.{length-zipped}
 use Rattle.elimination.proofs.Made.{made, made-none, made-twice, made-zipped}
 use Rattle.regression.specs.Regression.{plusScaled, addRow}
-use Rattle.elimination.proofs.Rows.{RowsMade, row-fits, next-row}
+use Rattle.elimination.proofs.Rows.{RowsMade, Turn, turn}
 use borrow.Author.Needs.{needs}
 use Rattle.regression.proofs.add_two_rows.Statement.{statement}
 use Rattle.regression.proofs.add_two_rows.Tie as tie
@@ -30,11 +30,13 @@ Inv-loop acc₀ first second w start₀ j₀ acc start j =
 abbrev μ-loop : tie.MeasureT-loop
 μ-loop acc₀ first second w start₀ j₀ acc start j = length first - j
 
--- the row's end
-fits : (c : tie.In-loop Inv-loop μ-loop) → c .before .loop .start + length (now (c .before .before .before .before .before .args .first)) ≤ length (c .before .loop .acc)
-fits c =
-    let w : ℕ = length (now (c .before .before .before .before .before .args .first)) in
-    omega (arith, row-end w (w - 1) (c .before .loop .j) (omega arith))
+-- a turn of the loop
+here : (c : tie.In-loop Inv-loop μ-loop) → let a = c .before .before .before .before .before .args in let l = c .before .loop in let w = length (now (a .first)) in Turn w (w - 1) (λ i row. scaled (now (a .second)) i (scaled (now (a .first)) i row)) (now (a .acc)) (l .acc) (l .start) (l .j)
+here c =
+    let a = c .before .before .before .before .before .args in
+    let l = c .before .loop in
+    let w = length (now (a .first)) in
+    turn w (w - 1) (λ i row. scaled (now (a .second)) i (scaled (now (a .first)) i row)) (now (a .acc)) (l .acc) (l .start) (l .j) (l .inv) (omega arith) (omega arith)
 
 -- all rows made anew, by one sample and then the other
 both : (first second : List Float) (n j : ℕ) (old : List (List Float)) → length old ≡ n → n ≤ length first → length second ≡ length first → n ≤ j
@@ -54,10 +56,10 @@ add-loop : tie.Need-add-loop Inv-loop μ-loop
 add-loop c = search needs
 
 add-end : tie.Need-add-end Inv-loop μ-loop
-add-end c = omega (arith, fits c)
+add-end c = omega (arith, here c .fits)
 
 mul-add-scaled-two : tie.Need-mul-add-scaled-two Inv-loop μ-loop
-mul-add-scaled-two c = omega (arith, fits c)
+mul-add-scaled-two c = omega (arith, here c .fits)
 
 sub-add-scaled-two : tie.Need-sub-add-scaled-two Inv-loop μ-loop
 sub-add-scaled-two c = search needs
@@ -66,7 +68,7 @@ part-add-scaled-two-start : tie.Need-part-add-scaled-two-start Inv-loop μ-loop
 part-add-scaled-two-start c = search needs
 
 part-add-scaled-two-end : tie.Need-part-add-scaled-two-end Inv-loop μ-loop
-part-add-scaled-two-end c = omega (arith, fits c)
+part-add-scaled-two-end c = omega (arith, here c .fits)
 
 mul-add-scaled-two-2 : tie.Need-mul-add-scaled-two-2 Inv-loop μ-loop
 mul-add-scaled-two-2 c = search needs
@@ -90,12 +92,7 @@ loop-less : tie.Need-loop-less Inv-loop μ-loop
 loop-less c = search needs
 
 loop-again : tie.Need-loop-again Inv-loop μ-loop
-loop-again c =
-    let l = c .before .before .before .before .before .before .before .loop in
-    let a = c .before .before .before .before .before .before .before .before .before .before .before .args in
-    let done = c .before .before .add-scaled-two in
-    let w : ℕ = length (now (a .first)) in
-    next-row w (w - 1) (λ i row. scaled (now (a .second)) i (scaled (now (a .first)) i row)) (now (a .acc)) (l .acc) (l .start) (l .j) (l .inv) (omega arith) (omega arith) (done .last .0) (done .kept .0) (done .ensures)
+loop-again c = let done = c .before .before .add-scaled-two in here (c .before .before .before .before .before .before) .next (done .last .0) (done .kept .0) (done .ensures)
 
 same-length : tie.Need-same-length Inv-loop μ-loop
 same-length c = search needs

@@ -1,16 +1,13 @@
 -- `elimination::reduced::reduce` meets its contract. The loop's invariant: the first i rows are divided (`RowsMade`). Assumes nothing.
-use mathlib.Core.Path.{_≡_, refl, sym, _∙_}
-use mathlib.Core.List.{List}
-use Prim.Native.Nat.{ℕ, _+_, _≤_, _-_}
+use mathlib.Core.Path.{refl, sym, _∙_}
+use Prim.Native.Nat.{_-_}
 use native.Mathlib.Nat.{zero-mul}
 use native.Mathlib.Omega.{arith}
-use lib.ListN.{length, take, drop}
-use lib.Ieee.{Float}
 use denote.Ref.{now}
 use Rattle.matrix.proofs.Laws.{length-rowsOf}
 use Rattle.elimination.specs.Elimination.{divided}
 use Rattle.elimination.proofs.Made.{made-none, made-map}
-use Rattle.elimination.proofs.Rows.{RowsMade, row-fits, row-part, next-row}
+use Rattle.elimination.proofs.Rows.{RowsMade, Turn, turn}
 use borrow.Author.Needs.{needs}
 use Rattle.elimination.proofs.reduced.reduce.Statement.{statement}
 use Rattle.elimination.proofs.reduced.reduce.Tie as tie
@@ -21,31 +18,21 @@ Inv-loop cells₀ n w i₀ at₀ cells i at = RowsMade w n (λ j. divided n) cel
 abbrev μ-loop : tie.MeasureT-loop
 μ-loop cells₀ n w i₀ at₀ cells i at = n - i
 
--- in a turn of the loop: what was passed, the row's end, and that the part is a row
-module _ (c : tie.In-loop Inv-loop μ-loop) where
-  abbrev s : tie.Start Inv-loop μ-loop
-  s = c .before .before .before
+-- where the function begins, and a turn of the loop
+abbrev start : tie.In-loop Inv-loop μ-loop → tie.Start Inv-loop μ-loop
+start c = c .before .before .before
 
-  abbrev w : ℕ
-  w = s .args .w
-
-  abbrev g : ℕ → List Float → List Float
-  g = λ j. divided (s .args .n)
-
-  fits : c .before .loop .at + w ≤ length (c .before .loop .cells)
-  fits = row-fits w (s .args .n) g (now (s .args .cells)) (c .before .loop .cells) (c .before .loop .at) (c .before .loop .i) (c .before .loop .inv) (c .loop-test .taken) (s .pre .count)
-
-  row : let l = c .before .loop in length (take (l .at + w - l .at) (drop (l .at) (l .cells))) ≡ w
-  row = row-part w (s .args .n) g (now (s .args .cells)) (c .before .loop .cells) (c .before .loop .at) (c .before .loop .i) (c .before .loop .inv) (c .loop-test .taken) (s .pre .count)
+here : (c : tie.In-loop Inv-loop μ-loop) → let s = start c in let l = c .before .loop in Turn (s .args .w) (s .args .n) (λ j. divided (s .args .n)) (now (s .args .cells)) (l .cells) (l .at) (l .i)
+here c = let s = start c in let l = c .before .loop in turn (s .args .w) (s .args .n) (λ j. divided (s .args .n)) (now (s .args .cells)) (l .cells) (l .at) (l .i) (l .inv) (c .loop-test .taken) (s .pre .count)
 
 loop-holds : tie.Need-loop-holds Inv-loop μ-loop
 loop-holds c = (search needs, sym (zero-mul _), made-none _ _, refl)
 
 add-end : tie.Need-add-end Inv-loop μ-loop
-add-end c = omega (arith, fits c)
+add-end c = omega (arith, here c .fits)
 
 mul-divide-row : tie.Need-mul-divide-row Inv-loop μ-loop
-mul-divide-row c = omega (arith, fits c)
+mul-divide-row c = omega (arith, here c .fits)
 
 sub-divide-row : tie.Need-sub-divide-row Inv-loop μ-loop
 sub-divide-row c = omega arith
@@ -54,10 +41,10 @@ part-divide-row-start : tie.Need-part-divide-row-start Inv-loop μ-loop
 part-divide-row-start c = omega arith
 
 part-divide-row-end : tie.Need-part-divide-row-end Inv-loop μ-loop
-part-divide-row-end c = omega (arith, fits c)
+part-divide-row-end c = omega (arith, here c .fits)
 
 divide-row-requires : tie.Need-divide-row-requires Inv-loop μ-loop
-divide-row-requires c κs = let t = c .before in omega (arith, row t, s t .pre .left)
+divide-row-requires c κs = let t = c .before in omega (arith, here t .part, start t .pre .left)
 
 add-i : tie.Need-add-i Inv-loop μ-loop
 add-i c = search needs
@@ -66,11 +53,7 @@ loop-less : tie.Need-loop-less Inv-loop μ-loop
 loop-less c = search needs
 
 loop-again : tie.Need-loop-again Inv-loop μ-loop
-loop-again c =
-    let t = c .before .before .before .before in
-    let l = t .before .loop in
-    let done = c .before .before .divide-row in
-    next-row (w t) (s t .args .n) (g t) (now (s t .args .cells)) (l .cells) (l .at) (l .i) (l .inv) (t .loop-test .taken) (s t .pre .count) (done .last .0) (done .kept .0) (done .ensures)
+loop-again c = let done = c .before .before .divide-row in here (c .before .before .before .before) .next (done .last .0) (done .kept .0) (done .ensures)
 
 same-length : tie.Need-same-length Inv-loop μ-loop
 same-length c = c .before .loop .inv .3

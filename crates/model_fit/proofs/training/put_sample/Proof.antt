@@ -1,11 +1,11 @@
 -- `model_fit::training::put_sample` meets its contract: the row's first cells are the design row, and the target is put behind them. Assumes nothing.
-use mathlib.Core.Path.{_≡_, ap, _∙_}
+use mathlib.Core.Path.{ap, _∙_}
 use mathlib.Core.List.{List}
-use Prim.Native.Nat.{ℕ, _+_, _<_}
+use Prim.Native.Nat.{ℕ, _+_}
 use native.Mathlib.Omega.{arith}
 use denote.Ref.{now}
 use lib.Ieee.{Float}
-use lib.ListN.{length, take, set}
+use lib.ListN.{take, set}
 use borrow.Author.Needs.{needs}
 use Rattle.embedding.specs.Design.{orderOf}
 use Rattle.model_fit.specs.Input.{tableOf, queryOf}

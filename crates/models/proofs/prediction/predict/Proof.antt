@@ -1,9 +1,6 @@
 -- `models::prediction::predict` meets its contract: refused by the status, or accepted and done. Assumes nothing.
 use mathlib.Core.Path.{_≡_, sym, ap, _∙_}
-use mathlib.Core.List.{List}
-use Prim.Native.Nat.{ℕ}
 use denote.Ref.{now}
-use lib.Ieee.{Float}
 use Rattle.feature.specs.Status.{accepted}
 use Rattle.model_fit.specs.Input.{Input, inputOf, statusOf}
 use Rattle.model_fit.proofs.Status.{accepted-checked, accepted-room}
