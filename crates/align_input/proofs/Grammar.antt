@@ -1,4 +1,4 @@
--- The reader takes exactly the texts of the grammar, each as its input. Assumes nothing.
+-- The reader takes exactly the texts of the grammar, each as its input.
 use mathlib.Core.Path.{_≡_, refl, sym, ap, _∙_, subst}
 use mathlib.Core.Logic.{_↔_}
 use mathlib.Core.List.{List, [], _∷_, _++_, map, flatten, append-assoc, append-nil}

@@ -1,4 +1,4 @@
--- A row read line by line: what is left to read from the place reached gives what the whole gives. Assumes nothing.
+-- A row read line by line: what is left to read from the place reached gives what the whole gives.
 use mathlib.Core.Path.{_≡_, refl, sym, ap, _∙_}
 use mathlib.Core.List.{List}
 use mathlib.Core.Option.{none}

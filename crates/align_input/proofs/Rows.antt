@@ -1,4 +1,4 @@
--- The rows from a place of a text on, and the columns that they are stored in, a row at a time. Assumes nothing.
+-- The rows from a place of a text on, and the columns that they are stored in, a row at a time.
 use mathlib.Core.Path.{_≡_, refl, sym, ap, _∙_, subst}
 use mathlib.Core.List.{List, [], _∷_, map}
 use mathlib.Core.Option.{Option, none, some}

@@ -1,4 +1,4 @@
--- How long the parts of an answer are, and the next part of a run of them. Assumes nothing.
+-- How long the parts of an answer are, and the next part of a run of them.
 use mathlib.Core.Path.{_≡_, refl, ap, ap₂, _∙_}
 use mathlib.Core.List.{List, [], _∷_, _++_, flatten, headD, tail}
 use Prim.Native.Nat.{ℕ, _+_, _*_, _^_, _≤_, _<_}

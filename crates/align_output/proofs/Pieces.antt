@@ -1,4 +1,4 @@
--- A text that is written piece by piece: writing what is left of it gives what writing all of it gives. Assumes nothing.
+-- A text that is written piece by piece: writing what is left of it gives what writing all of it gives.
 use mathlib.Core.Path.{_≡_, refl, sym, ap₂, _∙_}
 use mathlib.Core.List.{List, [], _++_}
 use Prim.Native.Nat.{ℕ, _+_}

@@ -1,5 +1,5 @@
 -- An alignment within the program's limits, with slices that are long enough: it is refused for a number out of range or not at all, and the
--- outputs' first cells are the records' and the rows'. Assumes nothing.
+-- outputs' first cells are the records' and the rows'.
 use mathlib.Core.Path.{_≡_, refl, sym, ap, _∙_}
 use mathlib.Core.Bool.{Bool, true, false, cond}
 use mathlib.Core.List.{List, [], _∷_, map}

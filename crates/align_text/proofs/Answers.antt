@@ -1,4 +1,4 @@
--- The answer to a text, by what was read of it: malformed, past a limit, or columns. Assumes nothing.
+-- The answer to a text, by what was read of it: malformed, past a limit, or columns.
 use mathlib.Core.Path.{_≡_, refl, sym, ap, _∙_}
 use mathlib.Core.Bool.{Bool, true, false, _&&_, cond}
 use mathlib.Core.List.{List, map}

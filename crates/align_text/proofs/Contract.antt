@@ -1,4 +1,4 @@
--- The contract of `align_text`, by whether the text fits, and what a caller has of it. Assumes nothing.
+-- The contract of `align_text`, by whether the text fits, and what a caller has of it.
 use mathlib.Core.Path.{_≡_, refl, sym, ap, _∙_}
 use mathlib.Core.Bool.{Bool, true, false, cond}
 use mathlib.Core.List.{List, [], _∷_, _++_}

@@ -1,4 +1,4 @@
--- Document 01's examples of the alignment as texts of the program, over the definitions, by computation. Assumes nothing.
+-- Document 01's examples of the alignment as texts of the program, over the definitions, by computation.
 use Prim.Native.Nat.{ℕ}
 use Prim.Native.String.{String}
 use mathlib.Core.Path.{_≡_, refl}

@@ -1,4 +1,4 @@
--- No answer is longer than 4,882 bytes: the status, eight files and 256 rows. Assumes nothing.
+-- No answer is longer than 4,882 bytes: the status, eight files and 256 rows.
 use mathlib.Core.Path.{_≡_, refl, sym, ap, _∙_}
 use mathlib.Core.Bool.{Bool, true, false, cond}
 use mathlib.Core.List.{List, map}

@@ -1,4 +1,4 @@
--- One step of each definition of the elimination that a loop walks. Assumes nothing.
+-- One step of each definition of the elimination that a loop walks.
 use mathlib.Core.Path.{_≡_, refl, sym, ap, _∙_}
 use mathlib.Core.List.{List, [], _∷_, map}
 use mathlib.Core.Bool.{Bool, true, false, not, _&&_, true≢false, false≢true}

@@ -1,4 +1,4 @@
--- A part of a list that is lent from place a on, k cells long, and comes back as other cells. For any cells. Assumes nothing.
+-- A part of a list that is lent from place a on, k cells long, and comes back as other cells. For any cells.
 use mathlib.Core.Path.{_≡_, refl, sym, ap, _∙_}
 use mathlib.Core.List.{List, [], _∷_, _++_, append-nil}
 use Prim.Native.Nat.{ℕ, _+_, _-_, _≤_}

@@ -1,4 +1,4 @@
--- The series of ridges as a loop walks it that multiplies by ten while the ridge is at most 1.0. Assumes nothing.
+-- The series of ridges as a loop walks it that multiplies by ten while the ridge is at most 1.0.
 use mathlib.Core.Path.{_≡_, refl, sym, _∙_, ap}
 use mathlib.Core.Bool.{Bool, true, false}
 use mathlib.Core.List.{List, [], _∷_}

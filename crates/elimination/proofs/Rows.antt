@@ -1,4 +1,4 @@
--- Rows of a matrix that are replaced: each in a turn of a loop, the first ones, or the later ones. For any cells. Assumes nothing.
+-- Rows of a matrix that are replaced: each in a turn of a loop, the first ones, or the later ones. For any cells.
 use mathlib.Core.Path.{_≡_, refl, sym, ap, _∙_}
 use mathlib.Core.List.{List, [], _∷_, _++_}
 use Prim.Native.Nat.{ℕ, zero, suc, _+_, _-_, _*_, _≤_, _<_}

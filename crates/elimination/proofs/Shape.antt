@@ -1,4 +1,4 @@
--- What a system's shape gives: small counts, rows within the cells, and the same shape for as many other cells. Assumes nothing.
+-- What a system's shape gives: small counts, rows within the cells, and the same shape for as many other cells.
 use mathlib.Core.Path.{_≡_, _∙_}
 use mathlib.Core.List.{List}
 use Prim.Native.Nat.{ℕ, _+_, _*_, _≤_, _<_}

@@ -1,5 +1,5 @@
 -- Laws of counting in a list: a tally with one element more, its length and cells, and that the counts of different numbers add up to the count
--- of the elements that are one of them. Assumes nothing.
+-- of the elements that are one of them.
 use mathlib.Core.Path.{_≡_, refl, sym, ap, _∙_, subst}
 use mathlib.Core.Bool.{Bool, true, false, not, _&&_, _||_, cond}
 use mathlib.Core.List.{List, [], _∷_, _++_, map}

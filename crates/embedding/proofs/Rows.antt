@@ -1,5 +1,4 @@
 -- Laws of a row that is written from its first cell on: one cell made from a list's element after the other, and one block after the other.
--- Assumes nothing.
 use mathlib.Core.Path.{_≡_, refl, sym, ap, _∙_}
 use mathlib.Core.Bool.{Bool}
 use mathlib.Core.List.{List, [], _∷_, _++_, map, append-assoc}

@@ -1,5 +1,5 @@
 -- What holds of every peptide's row, for both models at once: the row has the model's order, and each of its three blocks of 22 counts adds up to
--- the number of positions that it counts. Assumes nothing.
+-- the number of positions that it counts.
 use mathlib.Core.Path.{_≡_, refl, sym, ap, _∙_}
 use mathlib.Core.Bool.{Bool}
 use mathlib.Core.List.{List, map}

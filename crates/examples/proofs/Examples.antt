@@ -1,4 +1,4 @@
--- Each of document 01's P examples holds. The list is walked by computation, so a wrong definition or a wrong number is refused. Assumes nothing.
+-- Each of document 01's P examples holds. The list is walked by computation, so a wrong definition or a wrong number is refused.
 use mathlib.Core.Path.{_≡_, refl}
 use mathlib.Core.Bool.{true}
 use mathlib.Core.List.{zipWith, headD}

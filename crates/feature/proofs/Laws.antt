@@ -1,4 +1,4 @@
--- Laws of the shared checks: what a test that passes says of each element, and how a loop goes through it. Assumes nothing.
+-- Laws of the shared checks: what a test that passes says of each element, and how a loop goes through it.
 use mathlib.Core.Path.{_≡_, refl}
 use mathlib.Core.Bool.{Bool, true, false, _&&_}
 use mathlib.Core.List.{List, [], _∷_}

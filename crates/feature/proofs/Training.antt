@@ -1,4 +1,4 @@
--- Laws of the training rows: by rows and by columns, and the columns of rows. Assumes nothing.
+-- Laws of the training rows: by rows and by columns, and the columns of rows.
 use mathlib.Core.Path.{_≡_, refl, sym, ap, _∙_}
 use mathlib.Core.Bool.{Bool, true, false, cond}
 use mathlib.Core.List.{List, [], _∷_, map, headD, tail}

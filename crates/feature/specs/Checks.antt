@@ -1,4 +1,4 @@
--- The checks that several entry points share, as tests on the whole input, and document 01's limits. Assumes nothing.
+-- The checks that several entry points share, as tests on the whole input, and document 01's limits.
 use Prim.Native.Nat.{ℕ, _*_}
 use mathlib.Core.Bool.{Bool, true, _&&_}
 use mathlib.Core.List.{List, [], _∷_}

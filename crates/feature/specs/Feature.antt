@@ -1,4 +1,4 @@
--- A row, and which rows train, as document 01 has them. Assumes nothing.
+-- A row, and which rows train, as document 01 has them.
 use Prim.Native.Nat.{ℕ}
 use mathlib.Core.Bool.{Bool, false, _&&_, cond}
 use mathlib.Core.List.{List, [], _∷_, headD, tail}

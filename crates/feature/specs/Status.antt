@@ -1,4 +1,4 @@
--- The statuses of document 01's table (the paper's refusal numbers), in the order in which they are checked. Assumes nothing.
+-- The statuses of document 01's table (the paper's refusal numbers), in the order in which they are checked.
 use Prim.Native.Nat.{ℕ}
 use mathlib.Core.Bool.{Bool, cond}
 use mathlib.Core.List.{List, [], _∷_}

@@ -1,4 +1,4 @@
--- Hex digits both ways, over the number of digits. Assumes nothing.
+-- Hex digits both ways, over the number of digits.
 use mathlib.Core.Path.{_≡_, refl, sym, ap, ap₂, _∙_, subst}
 use mathlib.Core.Bool.{Bool, true, false, _&&_, cond}
 use mathlib.Core.List.{List, [], _∷_}

@@ -1,4 +1,4 @@
--- Bit patterns both ways, over the format; and narrowing what an f32 holds already changes nothing. Assumes nothing.
+-- Bit patterns both ways, over the format; and narrowing what an f32 holds already changes nothing.
 use mathlib.Core.Path.{_≡_, refl, sym, ap, _∙_, subst}
 use mathlib.Core.Bool.{Bool, true, false, not, _&&_, cond}
 use Prim.Native.Nat.{ℕ, zero, suc, _+_, _-_, _*_, _/_, _%_, _^_, _≤_, _<_}

@@ -1,4 +1,4 @@
--- A NaN by its tests, of a value and of a bit pattern, over the format. Assumes nothing.
+-- A NaN by its tests, of a value and of a bit pattern, over the format.
 use mathlib.Core.Path.{_≡_, refl, sym, _∙_, subst}
 use mathlib.Core.Bool.{Bool, true, false, not, true≢false}
 use Prim.Native.Nat.{ℕ, _*_, _%_, _≤_, _<_}

@@ -1,4 +1,4 @@
--- The order of two floats, as the tests of `lib.Ieee` write it. Assumes nothing.
+-- The order of two floats, as the tests of `lib.Ieee` write it.
 use mathlib.Core.Path.{_≡_, refl, sym, ap, _∙_}
 use Prim.Native.Nat.{ℕ, zero, suc, _*_, _^_, _≤_, _<_}
 use native.Mathlib.Nat.{pow-succ', mul-one, one-mul}

@@ -1,4 +1,4 @@
--- Rounding a value of 53 digits to binary32, in whole numbers: which digits are kept, and what the pattern is. Assumes nothing.
+-- Rounding a value of 53 digits to binary32, in whole numbers: which digits are kept, and what the pattern is.
 use mathlib.Core.Path.{_≡_, refl, sym, ap, _∙_, subst}
 use mathlib.Core.Logic.{_⊎_, inl, inr}
 use Prim.Native.Nat.{ℕ, zero, suc, _+_, _-_, _*_, _/_, _%_, _^_, _≤_, _<_, min, compare, Ordering, Ordering·lt, Ordering·eq, Ordering·gt}

@@ -1,4 +1,4 @@
--- The sum of two whole numbers, each of which its format holds, is the whole number of their sum, rounded once. Assumes nothing.
+-- The sum of two whole numbers, each of which its format holds, is the whole number of their sum, rounded once.
 use mathlib.Core.Path.{_≡_, sym, ap, ap₂, _∙_}
 use mathlib.Core.Bool.{false}
 use Prim.Native.Nat.{ℕ, _+_, _*_, _^_, _≤_}

@@ -1,4 +1,4 @@
--- The checks and the contract of `solve`, from what stands behind them. Assumes nothing.
+-- The checks and the contract of `solve`, from what stands behind them.
 use mathlib.Core.Path.{_≡_, refl, sym, ap, _∙_}
 use mathlib.Core.List.{List, _++_}
 use mathlib.Core.Bool.{Bool, true, false, _&&_}

@@ -1,4 +1,4 @@
--- The nine ridges, by computation. Assumes nothing.
+-- The nine ridges, by computation.
 use mathlib.Core.Path.{_≡_, refl}
 use mathlib.Core.List.{[], _∷_, map}
 use lib.Ieee.{binary64, round, mul, le, toBits}

@@ -1,4 +1,4 @@
--- Laws of VALID_AA and of a letter's column. Assumes nothing.
+-- Laws of VALID_AA and of a letter's column.
 use mathlib.Core.Path.{_≡_, refl}
 use mathlib.Core.Bool.{Bool, true, false, cond}
 use mathlib.Core.List.{List, [], _∷_}

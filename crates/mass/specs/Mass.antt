@@ -1,4 +1,4 @@
--- VALID_AA of sage's mass.rs and the column of a letter, as document 01 has them. Assumes nothing.
+-- VALID_AA of sage's mass.rs and the column of a letter, as document 01 has them.
 use Prim.Native.Nat.{ℕ, zero, suc}
 use mathlib.Core.Bool.{Bool, cond, _&&_}
 use mathlib.Core.List.{List, [], _∷_}

@@ -1,4 +1,4 @@
--- Two rows exchanged cell by cell: after k columns the first k cells of each row are the other's. For any cells. Assumes nothing.
+-- Two rows exchanged cell by cell: after k columns the first k cells of each row are the other's. For any cells.
 use mathlib.Core.Path.{_≡_, refl, sym, ap, _∙_}
 use mathlib.Core.Logic.{_≢_}
 use mathlib.Core.List.{List, [], _∷_, _++_, append-nil}

@@ -1,5 +1,5 @@
 -- Laws of the rows of a flat list, for any cells: lengths, a row, a cell, a part written back, and two lists that agree in every cell.
--- A part that was lent as `&mut cells[a..e]` comes back as `put a (e - a) part cells`. Assumes nothing.
+-- A part that was lent as `&mut cells[a..e]` comes back as `put a (e - a) part cells`.
 use mathlib.Core.Path.{_≡_, refl, sym, ap, _∙_}
 use mathlib.Core.Logic.{⊎-elim}
 use mathlib.Core.List.{List, [], _∷_, _++_, map, append-assoc, append-nil}

@@ -1,5 +1,5 @@
 -- Laws of lists, for any elements: a table, a list made anew from one beside it, one written over another, two zipped, and one element again
--- and again. Assumes nothing.
+-- and again.
 use mathlib.Core.Path.{_≡_, refl, sym, ap, _∙_}
 use mathlib.Core.List.{List, [], _∷_, _++_, map, zip, zipWith, append-assoc, append-nil}
 use Prim.Native.Nat.{ℕ, zero, suc, _*_, _≤_, _<_, zero-le, suc-le-suc}

@@ -1,4 +1,4 @@
--- The checked read of a cell and the step of the column cursor. Assumes nothing.
+-- The checked read of a cell and the step of the column cursor.
 use Prim.Native.Nat.{ℕ, _+_, _^_, min}
 use mathlib.Core.Bool.{_&&_, cond}
 use mathlib.Core.List.{List}

@@ -1,4 +1,4 @@
--- A matrix as the list of its rows, and the flat list in which its cells lie row by row. For any cells. Assumes nothing.
+-- A matrix as the list of its rows, and the flat list in which its cells lie row by row. For any cells.
 use Prim.Native.Nat.{ℕ, zero, suc, _+_, _*_}
 use mathlib.Core.List.{List, [], _∷_, _++_, map}
 use lib.ListN.{take, drop, getD, set}

@@ -1,5 +1,4 @@
 -- Laws of a fit on its workspace: what the two halves hold once the normal equations are summed, and what the fit is by the solver's answer.
--- Assumes nothing.
 use mathlib.Core.Path.{_≡_, refl, sym, ap, _∙_}
 use mathlib.Core.List.{List, [], _∷_, _++_, append-nil}
 use Prim.Native.Nat.{ℕ, _+_, _-_, _<_}

@@ -1,4 +1,4 @@
--- Laws of the normal equations with the last sample summed or held back in a row. Assumes nothing.
+-- Laws of the normal equations with the last sample summed or held back in a row.
 use mathlib.Core.Path.{_≡_, refl, sym, ap, _∙_, subst}
 use mathlib.Core.Bool.{Bool, true, false, not}
 use mathlib.Core.List.{List, [], _∷_, _++_}

@@ -1,4 +1,4 @@
--- Laws of lists that are selected, and of a row whose first cells were written: for any elements. Assumes nothing.
+-- Laws of lists that are selected, and of a row whose first cells were written: for any elements.
 use mathlib.Core.Path.{_≡_, refl, ap, _∙_}
 use mathlib.Core.Bool.{Bool, true, false, cond}
 use mathlib.Core.List.{List, [], _∷_, _++_}

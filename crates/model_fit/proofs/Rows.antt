@@ -1,5 +1,5 @@
 -- Laws of the rows: the query and the sample of a row by its columns, and the samples of the training rows among the first so many rows, as the
--- loops go through them. Assumes nothing.
+-- loops go through them.
 use mathlib.Core.Path.{_≡_, refl, sym, ap, _∙_}
 use mathlib.Core.Bool.{Bool, true, false, cond}
 use mathlib.Core.List.{List, [], _∷_, _++_, map, headD, tail, append-nil}

@@ -1,4 +1,4 @@
--- Laws of the status: its value by the values of the checks, and what a call that is accepted has passed. Assumes nothing.
+-- Laws of the status: its value by the values of the checks, and what a call that is accepted has passed.
 use mathlib.Core.Path.{_≡_, refl}
 use mathlib.Core.Bool.{Bool, true, false, cond}
 use mathlib.Core.List.{List, [], _∷_}

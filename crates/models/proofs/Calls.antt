@@ -1,4 +1,4 @@
--- Laws of a call: what a fit leaves in slices that are longer than it needs, and the whole of a call by the status of its checks. Assumes nothing.
+-- Laws of a call: what a fit leaves in slices that are longer than it needs, and the whole of a call by the status of its checks.
 use mathlib.Core.Path.{_≡_, refl, sym, ap, _∙_}
 use mathlib.Core.Bool.{Bool, true, false, cond, _&&_}
 use mathlib.Core.List.{List, [], _++_, map, zipWith}

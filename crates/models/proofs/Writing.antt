@@ -1,4 +1,4 @@
--- Laws of the cells that the loops write: the prediction and the error of a row, and one cell more. Assumes nothing.
+-- Laws of the cells that the loops write: the prediction and the error of a row, and one cell more.
 use mathlib.Core.Path.{_≡_, refl, sym, ap, _∙_}
 use mathlib.Core.List.{List, _++_, map, zipWith}
 use Prim.Native.Nat.{ℕ, _+_, _<_}

@@ -1,4 +1,4 @@
--- Laws of the peptide table: how a loop goes through the offsets, and what a table that passes says of each peptide. Assumes nothing.
+-- Laws of the peptide table: how a loop goes through the offsets, and what a table that passes says of each peptide.
 use mathlib.Core.Path.{_≡_, refl, ap, _∙_}
 use mathlib.Core.Bool.{Bool, true, false, _&&_, cond}
 use mathlib.Core.List.{List, [], _∷_}

@@ -1,4 +1,4 @@
--- The peptide table of document 01: its letters, offsets, masses and logs, and checks 7 and 6. Assumes nothing.
+-- The peptide table of document 01: its letters, offsets, masses and logs, and checks 7 and 6.
 use Prim.Native.Nat.{ℕ, _+_, _-_, _≤_, _<_}
 use mathlib.Core.Bool.{Bool, false, _&&_, cond}
 use mathlib.Core.List.{List, [], _∷_}

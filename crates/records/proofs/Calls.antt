@@ -1,4 +1,4 @@
--- The contracts of a lookup and of a row's time, each from the equation for its answer: the number and the values follow. Assumes nothing.
+-- The contracts of a lookup and of a row's time, each from the equation for its answer: the number and the values follow.
 use mathlib.Core.Path.{_≡_, refl, ap, _∙_}
 use mathlib.Core.Bool.{Bool, true, false, cond}
 use mathlib.Core.List.{List, [], _∷_}

@@ -1,5 +1,4 @@
 -- Laws of the definitions of a regression: what one sample more does to every sum over the samples, and what the sums are of none.
--- Assumes nothing.
 use mathlib.Core.Path.{_≡_, refl, ap, sym, _∙_}
 use mathlib.Core.List.{List, [], _∷_, _++_, map, map-append, foldl-append}
 use Prim.Native.Nat.{ℕ, _+_, _-_, _*_, _<_}

@@ -1,4 +1,4 @@
--- No f32 equals the mark of an absent time, so a cell after one time more holds what the definition says. Assumes nothing.
+-- No f32 equals the mark of an absent time, so a cell after one time more holds what the definition says.
 use mathlib.Core.Path.{_≡_, refl, sym, ap, _∙_}
 use Prim.Native.Nat.{ℕ, zero, suc, _+_, _*_, _%_, _^_, _≤_, _<_}
 use native.Mathlib.Nat.{mul-le-mul-right, mul-pos}

@@ -1,4 +1,4 @@
--- What a status says of a call, and the contract of a refused and of an accepted one. Assumes nothing.
+-- What a status says of a call, and the contract of a refused and of an accepted one.
 use mathlib.Core.Path.{_≡_, refl, sym, ap, _∙_}
 use mathlib.Core.Bool.{Bool, true, false, _&&_, cond}
 use mathlib.Core.List.{[], _∷_, _++_, map}

@@ -1,4 +1,4 @@
--- The longest times, row by row. Assumes nothing.
+-- The longest times, row by row.
 use mathlib.Core.Path.{_≡_, refl, sym, ap, _∙_}
 use mathlib.Core.Bool.{Bool, true, false, cond}
 use mathlib.Core.List.{List, [], _∷_}

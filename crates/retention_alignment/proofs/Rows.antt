@@ -1,4 +1,4 @@
--- The rows from i on, as columns that are walked side by side. Assumes nothing.
+-- The rows from i on, as columns that are walked side by side.
 use mathlib.Core.Path.{_≡_, refl, sym, ap, ap₂, _∙_}
 use mathlib.Core.Bool.{Bool, true, false, cond}
 use mathlib.Core.List.{List, [], _∷_}

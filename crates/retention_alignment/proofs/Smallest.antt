@@ -1,4 +1,4 @@
--- The smallest times, row by row: a cell of a matrix for each peptide and file. Assumes nothing.
+-- The smallest times, row by row: a cell of a matrix for each peptide and file.
 use mathlib.Core.Path.{_≡_, refl, sym, ap, ap₂, _∙_}
 use mathlib.Core.Bool.{Bool, true, false, _&&_, cond}
 use mathlib.Core.List.{List, [], _∷_, map, foldl}

@@ -1,4 +1,4 @@
--- The first of five checks that fails. Assumes nothing.
+-- The first of five checks that fails.
 use mathlib.Core.Path.{_≡_, refl}
 use mathlib.Core.Bool.{Bool, true, false}
 use native.Mathlib.Omega.{arith}

@@ -1,4 +1,4 @@
--- The records that the sums and the squares give are the definition's. Assumes nothing.
+-- The records that the sums and the squares give are the definition's.
 use mathlib.Core.Path.{_≡_, refl, sym, ap, ap₂, _∙_}
 use mathlib.Core.List.{List, [], _∷_, map, foldl, zipWith}
 use mathlib.Core.Option.{Option}

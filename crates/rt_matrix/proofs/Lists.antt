@@ -1,4 +1,4 @@
--- A list whose cells are made anew, one after the other, from one beside it: for any elements. Assumes nothing.
+-- A list whose cells are made anew, one after the other, from one beside it: for any elements.
 use mathlib.Core.Path.{_≡_, refl, sym, ap, ap₂, _∙_}
 use mathlib.Core.List.{List, [], _∷_}
 use Prim.Native.Nat.{ℕ, zero, suc, _+_, _≤_, _<_}

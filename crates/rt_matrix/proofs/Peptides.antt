@@ -1,4 +1,4 @@
--- The files' states after a peptide's row, and the rows of all peptides one after the other. Assumes nothing.
+-- The files' states after a peptide's row, and the rows of all peptides one after the other.
 use mathlib.Core.Path.{_≡_, refl, sym, ap, ap₂, _∙_, subst}
 use mathlib.Core.Bool.{Bool, true, false, cond}
 use mathlib.Core.List.{List, [], _∷_, map, foldl}

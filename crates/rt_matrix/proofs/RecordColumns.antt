@@ -1,4 +1,4 @@
--- The files' records, which lie in three columns, as one list. Assumes nothing.
+-- The files' records, which lie in three columns, as one list.
 use mathlib.Core.Path.{_≡_, refl, ap, ap₂, _∙_}
 use mathlib.Core.List.{List, [], _∷_, map, zip, zipWith}
 use Prim.Native.Nat.{ℕ, _<_}

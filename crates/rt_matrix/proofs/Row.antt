@@ -1,4 +1,4 @@
--- A peptide's row of cells as shares: what its cells from f on give. Assumes nothing.
+-- A peptide's row of cells as shares: what its cells from f on give.
 use mathlib.Core.Path.{_≡_, refl, sym, ap, ap₂, _∙_}
 use mathlib.Core.Bool.{Bool, true, false, not, cond}
 use mathlib.Core.List.{List, [], _∷_, map, zipWith}

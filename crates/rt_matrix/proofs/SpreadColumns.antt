@@ -1,4 +1,4 @@
--- The files' means and squares, which lie in two columns, as one list. Assumes nothing.
+-- The files' means and squares, which lie in two columns, as one list.
 use mathlib.Core.Path.{_≡_, refl, sym, ap, ap₂, _∙_}
 use mathlib.Core.List.{List, zipWith}
 use Prim.Native.Nat.{ℕ, _+_, _<_}

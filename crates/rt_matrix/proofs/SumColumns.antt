@@ -1,4 +1,4 @@
--- The files' sums, which lie in four columns, as one list. Assumes nothing.
+-- The files' sums, which lie in four columns, as one list.
 use mathlib.Core.Path.{_≡_, refl, sym, ap, ap₂, _∙_}
 use mathlib.Core.Bool.{Bool, true, false, cond}
 use mathlib.Core.List.{List, [], _∷_, zip, zipWith}

@@ -1,4 +1,4 @@
--- What a run that is accepted has passed, and that its three parts accept what they are passed. Assumes nothing.
+-- What a run that is accepted has passed, and that its three parts accept what they are passed.
 use mathlib.Core.Path.{_≡_, refl, sym, ap, _∙_}
 use mathlib.Core.Bool.{Bool, true, false, _&&_}
 use mathlib.Core.List.{List, [], _∷_}

@@ -1,4 +1,4 @@
--- Laws of the checks of a run. Assumes nothing.
+-- Laws of the checks of a run.
 use mathlib.Core.Path.{_≡_, refl, sym, ap, _∙_}
 use mathlib.Core.Bool.{Bool, true, false, _&&_}
 use mathlib.Core.List.{List, [], _∷_}

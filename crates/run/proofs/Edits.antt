@@ -1,4 +1,4 @@
--- A list of edits that touch only rows outside the training set leaves the training rows as they were, in their order. Assumes nothing.
+-- A list of edits that touch only rows outside the training set leaves the training rows as they were, in their order.
 use mathlib.Core.Path.{_≡_, refl, sym, ap, _∙_}
 use mathlib.Core.Bool.{Bool, true, false, not, _&&_, cond}
 use mathlib.Core.List.{List, [], _∷_, _++_, append-assoc}

@@ -1,6 +1,6 @@
 -- Demand 3: rows outside the training set can't move a fitted number or another row's result. What is supposed and what is claimed stands in
 -- specs/Ends.antt, tied there clause by clause to document 01's sentences. The idea: each end wrote what the definition gives from file count,
--- table, longest times and training rows (by the contract of `run`), and these are the same at both ends. Assumes nothing.
+-- table, longest times and training rows (by the contract of `run`), and these are the same at both ends.
 use mathlib.Core.Path.{_≡_, refl, sym, ap, _∙_}
 use mathlib.Core.Bool.{Bool, true, false, cond}
 use mathlib.Core.List.{List, [], _∷_, _++_, map}

@@ -1,4 +1,4 @@
--- What an accepted run leaves, from what its three parts promise. Assumes nothing.
+-- What an accepted run leaves, from what its three parts promise.
 use mathlib.Core.Path.{_≡_, refl, sym, ap, _∙_}
 use mathlib.Core.Bool.{Bool, true, false, _&&_, cond}
 use mathlib.Core.List.{List, [], _∷_, _++_, map, zipWith, append-assoc}

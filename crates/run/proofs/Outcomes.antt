@@ -1,5 +1,5 @@
 -- Laws of what a run works out: how many records and coefficients there are, and the results of all rows where a model fits and where it does
--- not. Assumes nothing.
+-- not.
 use mathlib.Core.Path.{_≡_, refl, sym, ap, _∙_}
 use mathlib.Core.Bool.{true, false, true≢false, false≢true}
 use mathlib.Core.List.{List, [], _∷_, map}

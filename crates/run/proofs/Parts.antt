@@ -1,4 +1,4 @@
--- What each part of an accepted run leaves, in the run's own words: the alignment, and the fit and the predictions of either model. Assumes nothing.
+-- What each part of an accepted run leaves, in the run's own words: the alignment, and the fit and the predictions of either model.
 use mathlib.Core.Path.{_≡_, refl, sym, ap, _∙_}
 use mathlib.Core.Bool.{Bool, true, false, cond}
 use mathlib.Core.List.{List, [], _∷_, _++_, map, zipWith}

@@ -1,4 +1,4 @@
--- What the alignment and the models read in columns is what the definitions read of the rows. Assumes nothing.
+-- What the alignment and the models read in columns is what the definitions read of the rows.
 use mathlib.Core.Path.{_≡_, refl, sym, ap, _∙_}
 use mathlib.Core.Bool.{Bool, true, false, cond}
 use mathlib.Core.List.{List, [], _∷_, map, zipWith}

@@ -1,4 +1,4 @@
--- The elimination keeps the number of rows and the cells of each, so that a fit that is solved has a coefficient for each column. Assumes nothing.
+-- The elimination keeps the number of rows and the cells of each, so that a fit that is solved has a coefficient for each column.
 use mathlib.Core.Path.{_≡_, refl, sym, ap, _∙_}
 use mathlib.Core.Bool.{Bool, true, false}
 use mathlib.Core.List.{List, [], _∷_, _++_, map}

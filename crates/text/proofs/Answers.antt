@@ -1,4 +1,4 @@
--- What an answer of a function tells of what the definitions give. Assumes nothing.
+-- What an answer of a function tells of what the definitions give.
 use mathlib.Core.Path.{_≡_, refl, sym, ap, _∙_, subst}
 use mathlib.Core.Bool.{true, false}
 use mathlib.Core.List.{List, [], _∷_, _++_}

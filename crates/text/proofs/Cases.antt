@@ -1,4 +1,4 @@
--- Proofs by cases on a comparison. Assumes nothing.
+-- Proofs by cases on a comparison.
 use mathlib.Core.Path.{_≡_, refl}
 use mathlib.Core.Bool.{Bool, true, false, _&&_}
 use mathlib.Core.Option.{Option, none, some}

@@ -1,4 +1,4 @@
--- Decimal digits both ways. Assumes nothing.
+-- Decimal digits both ways.
 use mathlib.Core.Path.{_≡_, refl, sym, ap, _∙_, subst}
 use mathlib.Core.Bool.{Bool, true, false, _&&_, cond}
 use mathlib.Core.List.{List, [], _∷_, _++_}

@@ -1,4 +1,4 @@
--- Lines and readers both ways. Assumes nothing.
+-- Lines and readers both ways.
 use mathlib.Core.Path.{_≡_, refl, sym, ap, _∙_, subst}
 use mathlib.Core.Bool.{Bool, true, false, _&&_, cond}
 use mathlib.Core.List.{List, [], _∷_, _++_, append-assoc}

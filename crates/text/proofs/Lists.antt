@@ -1,4 +1,4 @@
--- Laws of lists: what is left from a place on, and runs of stores. Assumes nothing.
+-- Laws of lists: what is left from a place on, and runs of stores.
 use mathlib.Core.Path.{_≡_, refl, sym, ap, _∙_}
 use mathlib.Core.List.{List, [], _∷_, _++_}
 use Prim.Native.Nat.{ℕ, zero, suc, _+_, _-_, _≤_, _<_}

@@ -1,4 +1,4 @@
--- The lines with numbers, both ways. Assumes nothing.
+-- The lines with numbers, both ways.
 use mathlib.Core.Path.{_≡_, refl, sym, ap, _∙_, subst}
 use mathlib.Core.Bool.{Bool, true, false, _&&_, cond}
 use mathlib.Core.List.{List, [], _∷_, _++_}

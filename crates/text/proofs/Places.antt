@@ -1,4 +1,4 @@
--- A chain of line readers, each from the place after the one before. Assumes nothing.
+-- A chain of line readers, each from the place after the one before.
 use mathlib.Core.Path.{_≡_, refl, sym, ap, _∙_}
 use mathlib.Core.List.{List}
 use Prim.Native.Nat.{ℕ, _+_}

@@ -1,4 +1,4 @@
--- One text written after another is the two as one text. Assumes nothing.
+-- One text written after another is the two as one text.
 use mathlib.Core.Path.{_≡_, refl, sym, ap, ap₂, _∙_, subst}
 use mathlib.Core.List.{List, [], _∷_, _++_, append-assoc}
 use Prim.Native.Nat.{ℕ, _+_, _≤_}

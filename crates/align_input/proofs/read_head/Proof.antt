@@ -1,5 +1,4 @@
 -- `align_input::read_head` meets its contract: line by line, by the laws of `RowLines`.
--- Assumes nothing.
 use mathlib.Core.Path.{_≡_, sym, _∙_}
 use denote.Ref.{now}
 use borrow.Author.Needs.{needs}

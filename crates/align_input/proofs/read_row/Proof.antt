@@ -1,5 +1,4 @@
 -- `align_input::read_row` meets its contract: line by line, by the laws of `RowLines`.
--- Assumes nothing.
 use mathlib.Core.Path.{_≡_, refl, sym, ap, _∙_}
 use native.Mathlib.Omega.{arith}
 use lib.IntN.{ℤ}

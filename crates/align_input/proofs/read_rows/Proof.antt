@@ -1,5 +1,4 @@
 -- `align_input::read_rows` meets its contract. The loop's invariant: counting and storing the rows that are left gives what counting and storing all of them gives.
--- Assumes nothing.
 use mathlib.Core.Path.{_≡_, refl, sym, ap, _∙_}
 use mathlib.Core.List.{List}
 use mathlib.Core.Option.{none, some}

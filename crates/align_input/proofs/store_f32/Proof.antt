@@ -1,5 +1,4 @@
 -- `align_input::store_f32` meets its contract: past the end `set` changes nothing.
--- Assumes nothing.
 use mathlib.Core.Path.{refl, sym, ap}
 use lib.ListN.{set}
 use lib.Seq.{set-out}

@@ -1,5 +1,4 @@
 -- `align_input::store_row` meets its contract: a cell of each column.
--- Assumes nothing.
 use mathlib.Core.Path.{_≡_, ap, _∙_}
 use native.Mathlib.Omega.{arith}
 use lib.ListN.{set}

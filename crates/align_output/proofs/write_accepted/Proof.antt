@@ -1,5 +1,4 @@
 -- `align_output::write_accepted` meets its contract: status, files and rows, one written after the other.
--- Assumes nothing.
 use mathlib.Core.List.{[], flatten}
 use native.Mathlib.Omega.{arith}
 use denote.Ref.{now}

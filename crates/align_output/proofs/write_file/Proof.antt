@@ -1,5 +1,4 @@
 -- `align_output::write_file` meets its contract: four lines, one written after the other.
--- Assumes nothing.
 use mathlib.Core.List.{[], flatten}
 use native.Mathlib.Omega.{arith}
 use Rattle.text.proofs.Writing.{wrote-nothing, wrote-then}

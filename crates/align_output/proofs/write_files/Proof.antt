@@ -1,5 +1,5 @@
 -- `align_output::write_files` meets its contract. The loop's invariant: writing the files that are left gives what writing all of them gives, and a file takes at
--- most 64 bytes. Assumes nothing.
+-- most 64 bytes.
 use mathlib.Core.Path.{subst}
 use mathlib.Core.List.{List}
 use Prim.Native.Nat.{ℕ, _+_, _-_, _*_, _≤_}

@@ -1,5 +1,4 @@
 -- `align_output::write_float` meets its contract: one line, of the pattern that `bits32` gives.
--- Assumes nothing.
 use mathlib.Core.Path.{subst}
 use Prim.Native.Nat.{ℕ}
 use denote.Ref.{now}

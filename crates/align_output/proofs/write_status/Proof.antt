@@ -1,5 +1,4 @@
 -- `align_output::write_status` meets its contract: one line.
--- Assumes nothing.
 use Rattle.align_output.specs.Output.{statusText}
 use borrow.Author.Needs.{needs}
 use Rattle.align_output.proofs.write_status.Statement.{statement}

@@ -1,5 +1,4 @@
 -- `align_text::align_text` meets its contract: the text stands in the buffer, and is copied where it fits.
--- Assumes nothing.
 use mathlib.Core.Path.{_≡_, sym, ap, _∙_}
 use mathlib.Core.List.{List}
 use Prim.Native.Nat.{ℕ, _≤_}

@@ -1,5 +1,4 @@
 -- `align_text::answer_rows` meets its contract: by the alignment's answer, whose parts are written, or whose status is.
--- Assumes nothing.
 use mathlib.Core.Path.{_≡_, sym, _∙_, subst}
 use mathlib.Core.List.{List}
 use native.Mathlib.Omega.{arith}

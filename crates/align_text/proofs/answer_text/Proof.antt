@@ -1,5 +1,4 @@
 -- `align_text::answer_text` meets its contract: by what was read, and by the limits.
--- Assumes nothing.
 use mathlib.Core.Path.{_≡_, sym, _∙_, subst}
 use mathlib.Core.Bool.{true}
 use mathlib.Core.List.{List}

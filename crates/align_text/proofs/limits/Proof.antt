@@ -1,4 +1,4 @@
--- `align_text::limits` meets its contract: test by test. Assumes nothing.
+-- `align_text::limits` meets its contract: test by test.
 use borrow.Author.Tests.{le-leb, lt-leb}
 use Rattle.align_text.proofs.limits.Statement.{statement}
 use Rattle.align_text.proofs.limits.Tie as tie

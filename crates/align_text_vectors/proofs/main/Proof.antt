@@ -1,4 +1,4 @@
--- `align_text_vectors::main` is safe and ends: the number of texts falls. Assumes nothing.
+-- `align_text_vectors::main` is safe and ends: the number of texts falls.
 use Prim.Native.Nat.{_≤_}
 use borrow.Author.Needs.{needs}
 use Rattle.align_text_vectors.proofs.main.Statement.{statement}

@@ -1,4 +1,4 @@
--- `align_text_vectors::replay` is safe: a text's length is at most the room's. Assumes nothing.
+-- `align_text_vectors::replay` is safe: a text's length is at most the room's.
 use mathlib.Core.Path.{sym}
 use native.Mathlib.Omega.{arith}
 use lib.Seq.{length-take-le}

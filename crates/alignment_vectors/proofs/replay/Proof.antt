@@ -1,4 +1,4 @@
--- `alignment_vectors::replay` is safe. Assumes nothing.
+-- `alignment_vectors::replay` is safe.
 use mathlib.Core.Path.{_≡_, sym}
 use Prim.Native.Nat.{ℕ, _≤_}
 use native.Mathlib.Omega.{arith}

@@ -1,4 +1,4 @@
--- `embedding::embed` meets its contract: each model's own. Assumes nothing.
+-- `embedding::embed` meets its contract: each model's own.
 use mathlib.Core.Path.{_≡_, subst}
 use mathlib.Core.List.{List, _++_}
 use Prim.Native.Nat.{ℕ, _≤_}

@@ -1,4 +1,4 @@
--- `feature::all_below` meets its contract. The loop's invariant: what is left gives what the whole gives. Assumes nothing.
+-- `feature::all_below` meets its contract. The loop's invariant: what is left gives what the whole gives.
 use mathlib.Core.Path.{_≡_, refl, sym, ap, _∙_}
 use mathlib.Core.Bool.{_&&_}
 use mathlib.Core.List.{List}

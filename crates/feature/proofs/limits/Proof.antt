@@ -1,4 +1,4 @@
--- `feature::limits` meets its contract: peptides × files is within the limit where peptides is within the quotient. Assumes nothing.
+-- `feature::limits` meets its contract: peptides × files is within the limit where peptides is within the quotient.
 use mathlib.Core.Path.{_≡_, sym, _∙_}
 use mathlib.Core.Bool.{true, false}
 use Prim.Native.Nat.{ℕ, _*_, _/_, _≤_, _<_}

@@ -1,4 +1,4 @@
--- `feature::row_limits` meets its contract: each test's value from its fact. Assumes nothing.
+-- `feature::row_limits` meets its contract: each test's value from its fact.
 use borrow.Author.Tests.{le-leb, lt-leb}
 use Rattle.feature.proofs.row_limits.Statement.{statement}
 use Rattle.feature.proofs.row_limits.Tie as tie

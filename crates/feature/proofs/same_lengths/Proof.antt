@@ -1,4 +1,4 @@
--- `feature::same_lengths` meets its contract: each test's value from its fact. Assumes nothing.
+-- `feature::same_lengths` meets its contract: each test's value from its fact.
 use mathlib.Core.Bool.{and-true}
 use borrow.Author.Tests.{eq-eqb, ne-eqb}
 use Rattle.feature.specs.Checks.{every}

@@ -1,4 +1,4 @@
--- `feature::trains` meets its contract: a label's bits are 1 where the label is. Assumes nothing.
+-- `feature::trains` meets its contract: a label's bits are 1 where the label is.
 use mathlib.Core.Path.{_≡_, refl}
 use mathlib.Core.Bool.{true, false}
 use native.Mathlib.Omega.{arith}

@@ -1,4 +1,4 @@
--- `float_vectors::main` is safe and ends: the measure is the number of turns that are left. Assumes nothing.
+-- `float_vectors::main` is safe and ends: the measure is the number of turns that are left.
 use borrow.Author.Needs.{needs}
 use Rattle.float_vectors.proofs.main.Statement.{statement}
 use Rattle.float_vectors.proofs.main.Tie as tie

@@ -1,4 +1,4 @@
--- `gauss::solve` meets its contract: refused where a check fails, and otherwise as the search over the needed parts answers. Assumes nothing.
+-- `gauss::solve` meets its contract: refused where a check fails, and otherwise as the search over the needed parts answers.
 use mathlib.Core.Path.{_≡_, sym, _∙_}
 use Prim.Native.Nat.{_*_, _≤_}
 use native.Mathlib.Nat.{mul-le-mul}

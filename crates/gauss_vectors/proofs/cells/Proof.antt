@@ -1,4 +1,4 @@
--- `gauss_vectors::cells` meets its contract: n rows are at most 100. Assumes nothing.
+-- `gauss_vectors::cells` meets its contract: n rows are at most 100.
 use Prim.Native.Nat.{_≤_, _*_}
 use native.Mathlib.Nat.{mul-le-mul-right}
 use native.Mathlib.Omega.{arith}

@@ -1,4 +1,4 @@
--- `gauss_vectors::main` is safe and ends: the measure is the number of systems that are left. Assumes nothing.
+-- `gauss_vectors::main` is safe and ends: the measure is the number of systems that are left.
 use borrow.Author.Needs.{needs}
 use Rattle.gauss_vectors.proofs.main.Statement.{statement}
 use Rattle.gauss_vectors.proofs.main.Tie as tie

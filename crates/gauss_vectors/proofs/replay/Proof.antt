@@ -1,4 +1,4 @@
--- `gauss_vectors::replay` is safe: each part is within its array. Assumes nothing.
+-- `gauss_vectors::replay` is safe: each part is within its array.
 use mathlib.Core.Path.{sym}
 use native.Mathlib.Omega.{arith}
 use lib.Seq.{length-take-le}

@@ -1,4 +1,4 @@
--- `mass::is_letter` meets its contract: each test's value from its fact. Assumes nothing.
+-- `mass::is_letter` meets its contract: each test's value from its fact.
 use borrow.Author.Tests.{le-leb, lt-leb}
 use Rattle.mass.proofs.is_letter.Statement.{statement}
 use Rattle.mass.proofs.is_letter.Tie as tie

@@ -1,4 +1,4 @@
--- `mass::residue_at` meets its contract: the constant is the list of the definition. Assumes nothing.
+-- `mass::residue_at` meets its contract: the constant is the list of the definition.
 use mathlib.Core.Path.{sym}
 use borrow.Author.Needs.{needs}
 use Rattle.mass.specs.Mass.{residueAt, validAa}

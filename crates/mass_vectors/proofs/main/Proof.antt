@@ -1,4 +1,4 @@
--- `mass_vectors::main` is safe and ends: the measure is the number of turns that are left. Assumes nothing.
+-- `mass_vectors::main` is safe and ends: the measure is the number of turns that are left.
 use borrow.Author.Needs.{needs}
 use Rattle.mass_vectors.proofs.main.Statement.{statement}
 use Rattle.mass_vectors.proofs.main.Tie as tie

@@ -1,4 +1,4 @@
--- `matrix::get` meets its contract: a row above the quotient has its place at 2^32 or above. Assumes nothing.
+-- `matrix::get` meets its contract: a row above the quotient has its place at 2^32 or above.
 use mathlib.Core.Path.{ap}
 use Prim.Native.Nat.{ℕ, _-_, _/_, _^_, _<_, _≤_, min}
 use native.Mathlib.Nat.{le-div-iff-mul-le, div-lt-iff-lt-mul}

@@ -1,4 +1,4 @@
--- `matrix::row_slice` meets its contract: the part has as many cells as a row. Assumes nothing.
+-- `matrix::row_slice` meets its contract: the part has as many cells as a row.
 use native.Mathlib.Nat.{add-sub-cancel-left}
 use borrow.Author.Needs.{needs}
 use Rattle.matrix.proofs.row_slice.Statement.{statement}

@@ -1,4 +1,4 @@
--- `matrix::zeros` meets its contract. The loop's invariant: the first k cells are +0.0, the others as they were. Assumes nothing.
+-- `matrix::zeros` meets its contract. The loop's invariant: the first k cells are +0.0, the others as they were.
 use mathlib.Core.Path.{_≡_, refl, _∙_}
 use mathlib.Core.List.{_++_}
 use Prim.Native.Nat.{_+_, _-_, _≤_, _<_}

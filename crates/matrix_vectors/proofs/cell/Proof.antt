@@ -1,4 +1,4 @@
--- `matrix_vectors::cell` is safe: the product of two numbers up to 1,024 fits. Assumes nothing.
+-- `matrix_vectors::cell` is safe: the product of two numbers up to 1,024 fits.
 use mathlib.Core.Path.{sym}
 use native.Mathlib.Nat.{mul-le-mul}
 use native.Mathlib.Omega.{arith}

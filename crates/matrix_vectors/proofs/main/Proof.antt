@@ -1,4 +1,4 @@
--- `matrix_vectors::main` is safe and ends: the measures are the cells and the turns that are left. Assumes nothing.
+-- `matrix_vectors::main` is safe and ends: the measures are the cells and the turns that are left.
 use Prim.Native.Nat.{_-_}
 use borrow.Author.Needs.{needs}
 use Rattle.matrix_vectors.proofs.main.Statement.{statement}

@@ -1,4 +1,4 @@
--- `peptide::check_letters` meets its contract. The loop's invariant: what is left gives what the whole gives. Assumes nothing.
+-- `peptide::check_letters` meets its contract. The loop's invariant: what is left gives what the whole gives.
 use mathlib.Core.Path.{_≡_, refl, sym, ap, _∙_}
 use mathlib.Core.Bool.{Bool, true, false, _&&_}
 use mathlib.Core.List.{List}

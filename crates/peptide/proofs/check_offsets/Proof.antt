@@ -1,5 +1,4 @@
 -- `peptide::check_offsets` meets its contract. The loop's invariant: the offsets from i on, after the one at `start`, give what the whole gives.
--- Assumes nothing.
 use mathlib.Core.Path.{_≡_, sym, _∙_}
 use Prim.Native.Nat.{_+_, _-_, _^_, _≤_, _<_}
 use native.Mathlib.Omega.{arith}

@@ -1,4 +1,4 @@
--- `peptide::check_table` meets its contract: each case of the status by the tests that led there. Assumes nothing.
+-- `peptide::check_table` meets its contract: each case of the status by the tests that led there.
 use mathlib.Core.Path.{refl, sym, _∙_}
 use mathlib.Core.Bool.{true, false}
 use borrow.Author.Needs.{needs}

@@ -1,4 +1,4 @@
--- `peptide_check::length` is safe: a table that passes has each peptide below its number of peptides. Assumes nothing.
+-- `peptide_check::length` is safe: a table that passes has each peptide below its number of peptides.
 use mathlib.Core.Path.{_∙_, sym}
 use Rattle.peptide.proofs.Laws.{has-peptide}
 use borrow.Author.Needs.{needs}

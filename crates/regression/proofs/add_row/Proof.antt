@@ -1,5 +1,4 @@
 -- `regression::add_row` meets its contract. The loop's invariant: the first j rows are made anew (`made j`), and start is row j's first cell.
--- Assumes nothing.
 use mathlib.Core.Path.{refl, sym, _∙_}
 use mathlib.Core.List.{List}
 use Prim.Native.Nat.{ℕ, _-_}

@@ -1,5 +1,4 @@
 -- `regression::add_scaled` meets its contract. The loop's invariant: the first k cells are made anew (`made k`), and the length is as it was.
--- Assumes nothing.
 use mathlib.Core.Path.{_≡_, refl, _∙_}
 use Prim.Native.Nat.{_≤_, _-_}
 use native.Mathlib.Omega.{arith}

@@ -1,5 +1,4 @@
 -- `regression::add_two_rows` meets its contract. The loop's invariant: the first j rows are made anew (`RowsMade`), by one sample and then the other.
--- Assumes nothing.
 use mathlib.Core.Path.{_≡_, refl, sym, ap, _∙_}
 use mathlib.Core.List.{List}
 use Prim.Native.Nat.{ℕ, _≤_, _-_}

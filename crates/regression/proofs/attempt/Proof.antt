@@ -1,5 +1,4 @@
 -- `regression::attempt` meets its contract: both halves are the normal equations after `restore`, and the elimination works on the first.
--- Assumes nothing.
 use mathlib.Core.Path.{_≡_, sym, _∙_, ap}
 use mathlib.Core.Bool.{Bool}
 use mathlib.Core.List.{List, _++_}

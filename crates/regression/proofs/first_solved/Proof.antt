@@ -1,5 +1,5 @@
 -- `regression::first_solved` meets its contract. The loop's invariant: the normal equations and beta are as they were, and the first ridge from eps on that
--- solves them is the first of the whole series. Assumes nothing.
+-- solves them is the first of the whole series.
 use mathlib.Core.Path.{_≡_, refl, sym, _∙_, ap}
 use mathlib.Core.Bool.{Bool, true, false}
 use mathlib.Core.List.{List}

@@ -1,5 +1,4 @@
 -- `regression::predict` meets its contract. The loop's invariant: the sum so far with the products of the columns left is the whole sum.
--- Assumes nothing.
 use mathlib.Core.Path.{_≡_, refl}
 use mathlib.Core.List.{List, [], _∷_, zipWith}
 use Prim.Native.Nat.{_≤_, _-_, _<_}

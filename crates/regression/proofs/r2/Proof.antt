@@ -1,4 +1,4 @@
--- `regression::r2` meets its contract: the count as an f64, and the one NaN, are what `float` says. Assumes nothing.
+-- `regression::r2` meets its contract: the count as an f64, and the one NaN, are what `float` says.
 use lib.Ieee.{ofBits}
 use Rattle.regression.specs.Regression.{r2Of}
 use borrow.Author.Needs.{needs}

@@ -1,4 +1,4 @@
--- `regression::solve` meets its contract: `first_solved` gives the answer and the coefficients, `zeros` the workspace. Assumes nothing.
+-- `regression::solve` meets its contract: `first_solved` gives the answer and the coefficients, `zeros` the workspace.
 use mathlib.Core.Path.{_∙_, ap}
 use Prim.Native.Nat.{ℕ}
 use lib.ListN.{replicate}

@@ -1,4 +1,4 @@
--- `retention_alignment::align` meets its contract: each step's result is what the definitions take next. Assumes nothing.
+-- `retention_alignment::align` meets its contract: each step's result is what the definitions take next.
 use mathlib.Core.Path.{_≡_, refl, sym, ap, _∙_}
 use mathlib.Core.List.{List, _++_, map}
 use Prim.Native.Nat.{ℕ, _*_, _≤_, _<_, _^_}

@@ -1,5 +1,5 @@
 -- `retention_alignment::align_rows` meets its contract. The loop's invariant: the first i rows' times are written (`upTo i`), and the length is as
--- it was. Assumes nothing.
+-- it was.
 use mathlib.Core.Path.{_≡_, refl, sym, ap, _∙_}
 use mathlib.Core.List.{List, map}
 use Prim.Native.Nat.{ℕ, _-_, _*_, _≤_, _<_}

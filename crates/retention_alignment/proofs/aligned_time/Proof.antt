@@ -1,4 +1,4 @@
--- `retention_alignment::aligned_time` meets its contract. Assumes nothing.
+-- `retention_alignment::aligned_time` meets its contract.
 use borrow.Author.Needs.{needs}
 use Rattle.retention_alignment.specs.Alignments.{onLine}
 use Rattle.retention_alignment.proofs.aligned_time.Statement.{statement}

@@ -1,4 +1,4 @@
--- `retention_alignment::check` meets its contract: the first check that fails, by the answers of the callees. Assumes nothing.
+-- `retention_alignment::check` meets its contract: the first check that fails, by the answers of the callees.
 use mathlib.Core.Path.{_≡_, sym, ap, _∙_}
 use mathlib.Core.Bool.{true}
 use Prim.Native.Nat.{ℕ, _*_, _<_, _^_}

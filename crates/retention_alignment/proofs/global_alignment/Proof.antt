@@ -1,4 +1,4 @@
--- `retention_alignment::global_alignment` meets its contract: by the status, and with the work's parts written back. Assumes nothing.
+-- `retention_alignment::global_alignment` meets its contract: by the status, and with the work's parts written back.
 use mathlib.Core.Path.{_≡_, sym, ap, _∙_}
 use Prim.Native.Nat.{ℕ, _*_, _≤_, _<_, _^_}
 use native.Mathlib.Omega.{arith}

@@ -1,4 +1,4 @@
--- `retention_alignment::long_enough` meets its contract: by the tests. Assumes nothing.
+-- `retention_alignment::long_enough` meets its contract: by the tests.
 use borrow.Author.Tests.{le-leb, lt-leb}
 use Rattle.retention_alignment.proofs.long_enough.Statement.{statement}
 use Rattle.retention_alignment.proofs.long_enough.Tie as tie

@@ -1,4 +1,4 @@
--- `rt_matrix::finite_or` meets its contract: by the test. Assumes nothing.
+-- `rt_matrix::finite_or` meets its contract: by the test.
 use mathlib.Core.Path.{_≡_, sym, ap, _∙_}
 use mathlib.Core.Bool.{Bool, cond}
 use borrow.Author.Needs.{needs}

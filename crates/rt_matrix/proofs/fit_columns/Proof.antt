@@ -1,4 +1,4 @@
--- `rt_matrix::fit_columns` meets its contract: the sums and the squares, taken row by row, are those of each file's points. Assumes nothing.
+-- `rt_matrix::fit_columns` meets its contract: the sums and the squares, taken row by row, are those of each file's points.
 use mathlib.Core.Path.{_≡_, refl, sym, ap, _∙_}
 use Prim.Native.Nat.{ℕ, _+_, _*_, _<_, _^_}
 use native.Mathlib.Omega.{arith}

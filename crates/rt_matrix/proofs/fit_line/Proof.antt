@@ -1,4 +1,4 @@
--- `rt_matrix::fit_line` meets its contract: its steps are the definition's. Assumes nothing.
+-- `rt_matrix::fit_line` meets its contract: its steps are the definition's.
 use mathlib.Core.Path.{_≡_, refl, sym, ap, ap₂, _∙_}
 use borrow.Author.Needs.{needs}
 use Prim.Native.Nat.{ℕ}

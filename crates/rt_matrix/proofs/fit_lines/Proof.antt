@@ -1,4 +1,4 @@
--- `rt_matrix::fit_lines` meets its contract: the parts of the arrays that it lends are fresh columns. Assumes nothing.
+-- `rt_matrix::fit_lines` meets its contract: the parts of the arrays that it lends are fresh columns.
 use mathlib.Core.Path.{_≡_, refl, sym, ap, _∙_}
 use mathlib.Core.List.{List}
 use Prim.Native.Nat.{ℕ, _≤_, _<_}

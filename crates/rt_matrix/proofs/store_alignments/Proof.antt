@@ -1,5 +1,5 @@
 -- `rt_matrix::store_alignments` meets its contract. The loop's invariant: the first f records are written (`upTo f`), and the lengths are as they
--- were. Assumes nothing.
+-- were.
 use mathlib.Core.Path.{_≡_, refl, sym, ap, _∙_}
 use Prim.Native.Nat.{ℕ, _+_, _-_, _≤_, _<_}
 use native.Mathlib.Omega.{arith}

@@ -1,4 +1,4 @@
--- `run::run` meets its contract: refused by the status, or the work of an accepted call. Assumes nothing.
+-- `run::run` meets its contract: refused by the status, or the work of an accepted call.
 use mathlib.Core.Path.{_≡_, sym, _∙_}
 use denote.Ref.{now}
 use Rattle.feature.specs.Status.{accepted}

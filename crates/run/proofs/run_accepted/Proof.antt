@@ -1,5 +1,5 @@
 -- `run::run_accepted` meets its contract: the alignment, then retention on the aligned times it wrote, then mobility, each of which accepts what it is
--- passed. Assumes nothing.
+-- passed.
 use mathlib.Core.Path.{_≡_, refl, sym, ap, _∙_}
 use mathlib.Core.List.{List}
 use Prim.Native.Nat.{ℕ}

@@ -1,4 +1,4 @@
--- `run_vectors::replay_sized` is safe: each part lent is a front of an array. Assumes nothing.
+-- `run_vectors::replay_sized` is safe: each part lent is a front of an array.
 use mathlib.Core.Path.{_≡_, sym}
 use Prim.Native.Nat.{ℕ, _+_, _≤_}
 use native.Mathlib.Omega.{arith}

@@ -1,4 +1,4 @@
--- `vectors::read_f64s` is safe and ends: the slice keeps its length, and i moves up to it. Assumes nothing.
+-- `vectors::read_f64s` is safe and ends: the slice keeps its length, and i moves up to it.
 use mathlib.Core.Path.{_≡_, refl}
 use Prim.Native.Nat.{_-_, _≤_}
 use native.Mathlib.Omega.{arith}

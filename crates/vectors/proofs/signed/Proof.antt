@@ -1,4 +1,4 @@
--- `vectors::signed` answers the i32 with the pattern: -1 less a number below 2 ^ 31 fits. Assumes nothing.
+-- `vectors::signed` answers the i32 with the pattern: -1 less a number below 2 ^ 31 fits.
 use mathlib.Core.Path.{_≡_, refl, sym, ap, _∙_, subst}
 use Prim.Native.Nat.{ℕ, zero, suc, _-_, _^_, _<_}
 use native.Mathlib.Nat.{zero-add}

@@ -1,4 +1,4 @@
--- `vectors::write_f32s` is safe and ends. Assumes nothing.
+-- `vectors::write_f32s` is safe and ends.
 use Prim.Native.Nat.{_-_, _≤_}
 use borrow.Author.Needs.{needs}
 use lib.ListN.{length}

@@ -1,4 +1,4 @@
--- `vectors::write_f64s` is safe and ends: i moves up to the length. Assumes nothing.
+-- `vectors::write_f64s` is safe and ends: i moves up to the length.
 use Prim.Native.Nat.{_-_, _≤_}
 use lib.ListN.{length}
 use borrow.Author.Needs.{needs}

@@ -1,4 +1,4 @@
--- `vectors::write_first_f32s` is safe. Assumes nothing.
+-- `vectors::write_first_f32s` is safe.
 use mathlib.Core.Path.{sym}
 use native.Mathlib.Omega.{arith}
 use lib.Seq.{length-take-le}

@@ -1,4 +1,4 @@
--- `elimination::cells::row_copy` meets its contract: the first w cells of the array are the row. Assumes nothing.
+-- `elimination::cells::row_copy` meets its contract: the first w cells of the array are the row.
 use mathlib.Core.Path.{_≡_, sym, ap, _∙_}
 use mathlib.Core.List.{List, _++_}
 use Prim.Native.Nat.{ℕ, _≤_}

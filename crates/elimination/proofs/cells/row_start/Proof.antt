@@ -1,4 +1,4 @@
--- `elimination::cells::row_start` meets its contract: the product is at most 100 times 108. Assumes nothing.
+-- `elimination::cells::row_start` meets its contract: the product is at most 100 times 108.
 use Prim.Native.Nat.{_*_, _≤_}
 use native.Mathlib.Nat.{mul-le-mul}
 use native.Mathlib.Omega.{arith}

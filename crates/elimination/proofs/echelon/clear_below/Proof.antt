@@ -1,4 +1,4 @@
--- `elimination::echelon::clear_below` meets its contract: the rows after row h are the part that was lent. Assumes nothing.
+-- `elimination::echelon::clear_below` meets its contract: the rows after row h are the part that was lent.
 use mathlib.Core.Path.{_≡_, refl, sym, ap, _∙_}
 use mathlib.Core.List.{List, _++_, map}
 use Prim.Native.Nat.{ℕ, suc, _+_, _-_, _*_, _≤_, _<_}

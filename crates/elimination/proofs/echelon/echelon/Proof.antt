@@ -1,5 +1,5 @@
 -- `elimination::echelon::echelon` meets its contract. The loop's invariant: what is left of the columns gives what all of them give; there are at most k
--- pivot rows above. Assumes nothing.
+-- pivot rows above.
 use mathlib.Core.Path.{_≡_, refl, sym, ap, _∙_}
 use mathlib.Core.List.{List, []}
 use mathlib.Core.Bool.{true, false}

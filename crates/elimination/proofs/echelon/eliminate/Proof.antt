@@ -1,4 +1,4 @@
--- `elimination::echelon::eliminate` meets its contract: the exchanged rows are what is then cleared. Assumes nothing.
+-- `elimination::echelon::eliminate` meets its contract: the exchanged rows are what is then cleared.
 use mathlib.Core.Path.{_≡_, sym, ap, _∙_}
 use mathlib.Core.List.{List, []}
 use Prim.Native.Nat.{ℕ, _*_, _≤_, _<_}

@@ -1,4 +1,4 @@
--- `elimination::reduced::cell_solved` meets its contract, by the tests on each way. Assumes nothing.
+-- `elimination::reduced::cell_solved` meets its contract, by the tests on each way.
 use mathlib.Core.Path.{refl}
 use lib.Ieee.{ofBits, round}
 use Rattle.elimination.proofs.reduced.cell_solved.Statement.{statement}

@@ -1,4 +1,4 @@
--- `elimination::reduced::clear_above` meets its contract: the rows before row i are the part that was lent. Assumes nothing.
+-- `elimination::reduced::clear_above` meets its contract: the rows before row i are the part that was lent.
 use mathlib.Core.Path.{_≡_, refl, sym, ap, _∙_}
 use mathlib.Core.List.{List, _++_, map}
 use Prim.Native.Nat.{ℕ, _*_, _≤_, _<_}

@@ -1,4 +1,4 @@
--- `elimination::reduced::reduce` meets its contract. The loop's invariant: the first i rows are divided (`RowsMade`). Assumes nothing.
+-- `elimination::reduced::reduce` meets its contract. The loop's invariant: the first i rows are divided (`RowsMade`).
 use mathlib.Core.Path.{refl, sym, _∙_}
 use Prim.Native.Nat.{_-_}
 use native.Mathlib.Nat.{zero-mul}

@@ -1,5 +1,4 @@
 -- `elimination::row::clear_column` meets its contract: the cells up to k are the front of the new row, and the part that was lent is the rest of it.
--- Assumes nothing.
 use mathlib.Core.Path.{_≡_, refl, sym, ap, _∙_}
 use mathlib.Core.List.{List, [], _∷_, _++_}
 use Prim.Native.Nat.{ℕ, suc, _+_, _-_, _<_}

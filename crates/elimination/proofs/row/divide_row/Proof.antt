@@ -1,4 +1,4 @@
--- `elimination::row::divide_row` meets its contract: the cells from the first nonzero one on are the part that was lent. Assumes nothing.
+-- `elimination::row::divide_row` meets its contract: the cells from the first nonzero one on are the part that was lent.
 use mathlib.Core.Path.{_≡_, refl, sym, ap, _∙_}
 use mathlib.Core.List.{List, _++_, map}
 use Prim.Native.Nat.{ℕ, _-_, _<_, _≤_}

@@ -1,5 +1,5 @@
 -- `elimination::row::first_nonzero` meets its contract. The loop's invariant: the j cells passed are zeros, so that j and the zeros of the rest are those
--- of the row. Assumes nothing.
+-- of the row.
 use mathlib.Core.Path.{_≡_, ap}
 use mathlib.Core.List.{List, []}
 use Prim.Native.Nat.{ℕ, suc, _+_, _≤_, _-_}

@@ -1,4 +1,4 @@
--- `elimination::row::subtract_multiple` meets its contract, from the scaled difference's. Assumes nothing.
+-- `elimination::row::subtract_multiple` meets its contract, from the scaled difference's.
 use Rattle.elimination.specs.Elimination.{lessMultiple}
 use borrow.Author.Needs.{needs}
 use Rattle.elimination.proofs.row.subtract_multiple.Statement.{statement}

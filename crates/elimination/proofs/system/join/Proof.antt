@@ -1,4 +1,4 @@
--- `elimination::system::join` meets its contract: the two parts that were lent are the row. Assumes nothing.
+-- `elimination::system::join` meets its contract: the two parts that were lent are the row.
 use mathlib.Core.Path.{_≡_, refl, sym, ap, _∙_}
 use mathlib.Core.List.{List, _++_}
 use Prim.Native.Nat.{ℕ, _-_, _≤_}

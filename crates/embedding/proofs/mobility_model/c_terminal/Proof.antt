@@ -1,4 +1,4 @@
--- `embedding::mobility_model::c_terminal` meets its contract: its two positions end with the peptide. Assumes nothing.
+-- `embedding::mobility_model::c_terminal` meets its contract: its two positions end with the peptide.
 use mathlib.Core.Path.{sym, _∙_}
 use borrow.Author.Needs.{needs}
 use denote.Ref.{now}

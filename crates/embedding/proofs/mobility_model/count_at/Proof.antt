@@ -1,4 +1,4 @@
--- `embedding::mobility_model::count_at` meets its contract. Assumes nothing.
+-- `embedding::mobility_model::count_at` meets its contract.
 use mathlib.Core.Path.{sym}
 use denote.Ref.{now}
 use lib.Ieee.{nan}

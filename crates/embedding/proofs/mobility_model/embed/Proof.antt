@@ -1,4 +1,4 @@
--- `embedding::mobility_model::embed` meets its contract: one block after the other. Assumes nothing.
+-- `embedding::mobility_model::embed` meets its contract: one block after the other.
 use mathlib.Core.Path.{refl, ap, _∙_}
 use mathlib.Core.List.{List, [], map, append-nil}
 use native.Mathlib.Omega.{arith}

@@ -1,5 +1,4 @@
 -- `embedding::mobility_model::put_classes` meets its contract: a run of stores from the first cell on, one for each class of the table.
--- Assumes nothing.
 use native.Mathlib.Omega.{arith}
 use lib.Seq.{sets-eq}
 use lib.ListN.{length-set}

@@ -1,4 +1,4 @@
--- `embedding::mobility_model::put_scalars` meets its contract: a run of stores from the first cell on. Assumes nothing.
+-- `embedding::mobility_model::put_scalars` meets its contract: a run of stores from the first cell on.
 use native.Mathlib.Omega.{arith}
 use lib.ListN.{length-set}
 use lib.Seq.{sets-eq}

@@ -1,4 +1,4 @@
--- `embedding::residues::n_terminal` meets its contract: the first two letters, or all. Assumes nothing.
+-- `embedding::residues::n_terminal` meets its contract: the first two letters, or all.
 use mathlib.Core.Path.{sym, _∙_}
 use native.Mathlib.Omega.{arith}
 use lib.Seq.{take-all, length-take-le}

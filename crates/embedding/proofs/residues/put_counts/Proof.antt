@@ -1,5 +1,4 @@
 -- `embedding::residues::put_counts` meets its contract. The loop's invariant: the first k cells are the first k counts, the others as they were.
--- Assumes nothing.
 use mathlib.Core.Path.{_≡_, refl, _∙_}
 use mathlib.Core.List.{_++_}
 use Prim.Native.Nat.{_≤_, _-_}

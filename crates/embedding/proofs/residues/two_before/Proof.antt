@@ -1,4 +1,4 @@
--- `embedding::residues::two_before` meets its contract: in each case the start is 2 + (end - 4). Assumes nothing.
+-- `embedding::residues::two_before` meets its contract: in each case the start is 2 + (end - 4).
 use mathlib.Core.Path.{sym, ap, _∙_}
 use Prim.Native.Nat.{ℕ, _+_, _-_}
 use native.Mathlib.Omega.{arith}

@@ -1,4 +1,4 @@
--- `embedding::retention_model::c_terminal` meets its contract: its two positions end before the last residue. Assumes nothing.
+-- `embedding::retention_model::c_terminal` meets its contract: its two positions end before the last residue.
 use mathlib.Core.Path.{sym, ap, _∙_}
 use Prim.Native.Nat.{ℕ, _+_, _-_}
 use native.Mathlib.Omega.{arith}

@@ -1,4 +1,4 @@
--- `embedding::retention_model::embed` meets its contract: one block after the other. Assumes nothing.
+-- `embedding::retention_model::embed` meets its contract: one block after the other.
 use mathlib.Core.Path.{refl, sym, ap}
 use mathlib.Core.List.{[], _∷_}
 use native.Mathlib.Omega.{arith}

@@ -1,4 +1,4 @@
--- `embedding::retention_model::put_scalars` meets its contract: a run of stores from the first cell on. Assumes nothing.
+-- `embedding::retention_model::put_scalars` meets its contract: a run of stores from the first cell on.
 use mathlib.Core.List.{_∷_, []}
 use native.Mathlib.Omega.{arith}
 use lib.ListN.{length-set}

@@ -1,4 +1,4 @@
--- `float::bits::bits64` meets its contract: a NaN has the pattern that `toBits` writes for it. Assumes nothing.
+-- `float::bits::bits64` meets its contract: a NaN has the pattern that `toBits` writes for it.
 use mathlib.Core.Path.{refl, sym, ap}
 use lib.Ieee.{binary64, toBits}
 use Rattle.float.proofs.Nan.{is-nan, no-nan}

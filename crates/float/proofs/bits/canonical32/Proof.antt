@@ -1,4 +1,4 @@
--- `float::bits::canonical32` meets its contract: to the logic there is one NaN. Assumes nothing.
+-- `float::bits::canonical32` meets its contract: to the logic there is one NaN.
 use mathlib.Core.Path.{refl}
 use lib.Ieee.{binary32}
 use Rattle.float.proofs.Nan.{the-nan}

@@ -1,4 +1,4 @@
--- `float::bits::canonical64` meets its contract: to the logic there is one NaN. Assumes nothing.
+-- `float::bits::canonical64` meets its contract: to the logic there is one NaN.
 use mathlib.Core.Path.{refl}
 use lib.Ieee.{binary64}
 use Rattle.float.proofs.Nan.{the-nan}

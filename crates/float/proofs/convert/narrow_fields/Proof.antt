@@ -1,4 +1,4 @@
--- `float::convert::narrow_fields` meets its contract: each arm is a law of `proofs/Round.antt`. Assumes nothing.
+-- `float::convert::narrow_fields` meets its contract: each arm is a law of `proofs/Round.antt`.
 use mathlib.Core.Path.{_≡_, sym, ap, _∙_}
 use mathlib.Core.Bool.{Bool, cond}
 use Prim.Native.Nat.{ℕ, _+_, _-_, _*_, _^_, min}

@@ -1,4 +1,4 @@
--- `float::hex::digit_value` meets its contract: the four tests part the bytes that are digits from the others. Assumes nothing.
+-- `float::hex::digit_value` meets its contract: the four tests part the bytes that are digits from the others.
 use mathlib.Core.Path.{sym}
 use native.Mathlib.Omega.{arith}
 use borrow.Author.Needs.{needs}

@@ -1,4 +1,4 @@
--- `float::hex::hex_digit` meets its contract. Assumes nothing.
+-- `float::hex::hex_digit` meets its contract.
 use borrow.Author.Needs.{needs}
 use borrow.Author.Tests.{lt-ltb, le-ltb}
 use Rattle.float.specs.Hex.{hexDigit}

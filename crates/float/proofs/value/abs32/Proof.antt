@@ -1,4 +1,4 @@
--- `float::value::abs32` meets its contract. Assumes nothing.
+-- `float::value::abs32` meets its contract.
 use mathlib.Core.Path.{_≡_, refl, sym, ap₂, _∙_, subst}
 use native.Mathlib.Nat.{eq-zero-or-pos, mul-pos}
 use Prim.Native.Nat.{ℕ, _+_, _*_, _<_}

@@ -1,4 +1,4 @@
--- `float::value::clamp64` meets its contract, by the tests of the definition. Assumes nothing.
+-- `float::value::clamp64` meets its contract, by the tests of the definition.
 use borrow.Author.Needs.{needs}
 use Rattle.float.specs.Value.{clamped}
 use Rattle.float.proofs.value.clamp64.Statement.{statement}

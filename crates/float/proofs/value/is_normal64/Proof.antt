@@ -1,4 +1,4 @@
--- `float::value::is_normal64` meets its contract. Assumes nothing.
+-- `float::value::is_normal64` meets its contract.
 use mathlib.Core.Path.{_≡_, refl, sym}
 use Prim.Native.Nat.{ℕ, _*_, _^_, _<_}
 use native.Mathlib.Omega.{arith}

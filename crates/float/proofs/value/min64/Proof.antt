@@ -1,4 +1,4 @@
--- `float::value::min64` meets its contract, by the tests of the definition. Assumes nothing.
+-- `float::value::min64` meets its contract, by the tests of the definition.
 use mathlib.Core.Path.{sym, ap, _∙_}
 use lib.Ieee.{Float, isNan}
 use borrow.Author.Needs.{needs}

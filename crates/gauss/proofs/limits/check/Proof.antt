@@ -1,4 +1,4 @@
--- `gauss::limits::check` meets its contract, by the tests on each way. Assumes nothing.
+-- `gauss::limits::check` meets its contract, by the tests on each way.
 use mathlib.Core.Path.{_≡_, refl, sym, _∙_}
 use borrow.Author.Tests.{not-true, not-false}
 use Rattle.gauss.proofs.Answer.{within-limits}

@@ -1,4 +1,4 @@
--- `gauss::limits::has_room` meets its contract: the counts are at most 800 and 10,800. Assumes nothing.
+-- `gauss::limits::has_room` meets its contract: the counts are at most 800 and 10,800.
 use Prim.Native.Nat.{_*_, _≤_}
 use native.Mathlib.Nat.{mul-le-mul}
 use native.Mathlib.Omega.{arith}

@@ -1,4 +1,4 @@
--- `gauss::limits::is_product` meets its contract: len is a times b just where a divides it and the quotient is b. Assumes nothing.
+-- `gauss::limits::is_product` meets its contract: len is a times b just where a divides it and the quotient is b.
 use mathlib.Core.Path.{_≡_, refl, sym, ap, _∙_}
 use mathlib.Core.Bool.{Bool, true, false}
 use Prim.Native.Nat.{ℕ, _*_, _/_, _%_, _<_}

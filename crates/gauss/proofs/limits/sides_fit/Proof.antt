@@ -1,4 +1,4 @@
--- `gauss::limits::sides_fit` meets its contract, from the two products'. Assumes nothing.
+-- `gauss::limits::sides_fit` meets its contract, from the two products'.
 use mathlib.Core.Path.{refl}
 use borrow.Author.Needs.{needs}
 use Rattle.gauss.proofs.limits.sides_fit.Statement.{statement}

@@ -1,4 +1,4 @@
--- `model_fit::checks::check` meets its contract: each case of the status by the tests that led there. Assumes nothing.
+-- `model_fit::checks::check` meets its contract: each case of the status by the tests that led there.
 use mathlib.Core.Path.{refl, sym, _∙_}
 use mathlib.Core.Bool.{true, false}
 use borrow.Author.Needs.{needs}

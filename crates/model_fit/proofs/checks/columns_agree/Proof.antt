@@ -1,4 +1,4 @@
--- `model_fit::checks::columns_agree` meets its contract, model by model. Assumes nothing.
+-- `model_fit::checks::columns_agree` meets its contract, model by model.
 use mathlib.Core.Path.{_≡_, refl, sym, _∙_}
 use mathlib.Core.Bool.{true, false, and-true}
 use mathlib.Core.List.{[], _∷_}

@@ -1,4 +1,4 @@
--- `model_fit::checks::fit_room` meets its contract: each test's value from its fact. Assumes nothing.
+-- `model_fit::checks::fit_room` meets its contract: each test's value from its fact.
 use Prim.Native.Nat.{_≤_, _<_}
 use borrow.Author.Needs.{needs}
 use borrow.Author.Tests.{le-leb, lt-leb}

@@ -1,4 +1,4 @@
--- `model_fit::checks::workspace_cells` meets its contract, model by model. Assumes nothing.
+-- `model_fit::checks::workspace_cells` meets its contract, model by model.
 use borrow.Author.Needs.{needs}
 use Rattle.model_fit.proofs.checks.workspace_cells.Statement.{statement}
 use Rattle.model_fit.proofs.checks.workspace_cells.Tie as tie

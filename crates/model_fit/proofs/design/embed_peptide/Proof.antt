@@ -1,4 +1,4 @@
--- `model_fit::design::embed_peptide` meets its contract: the letters and the log are those of the table. Assumes nothing.
+-- `model_fit::design::embed_peptide` meets its contract: the letters and the log are those of the table.
 use mathlib.Core.Path.{_≡_, ap}
 use native.Mathlib.Omega.{arith}
 use denote.Ref.{now}

@@ -1,5 +1,5 @@
 -- `model_fit::training::accumulate` meets its contract. The loop's invariant: the equations, with a row that may be held back, and the sums are those of the
--- training rows among the first i. Assumes nothing.
+-- training rows among the first i.
 use mathlib.Core.Path.{_≡_, refl, sym, ap, _∙_, subst}
 use mathlib.Core.Bool.{Bool, true, false, not}
 use mathlib.Core.List.{List, [], _∷_, _++_}

@@ -1,4 +1,4 @@
--- `model_fit::training::add_held` meets its contract. Assumes nothing.
+-- `model_fit::training::add_held` meets its contract.
 use mathlib.Core.Path.{_≡_, ap}
 use Prim.Native.Nat.{ℕ, _+_, _-_}
 use native.Mathlib.Omega.{arith}

@@ -1,4 +1,4 @@
--- `model_fit::training::add_sample` meets its contract: with a sample held back both are added, else the sample is held back. Assumes nothing.
+-- `model_fit::training::add_sample` meets its contract: with a sample held back both are added, else the sample is held back.
 use mathlib.Core.Path.{_≡_, ap, _∙_}
 use mathlib.Core.List.{List}
 use Prim.Native.Nat.{ℕ, _+_, _-_}

@@ -1,5 +1,5 @@
 -- `model_fit::training::fit_checked` meets its contract: the second half of the workspace holds the normal equations, the first half +0.0, and
--- what the solver says of them is the fit. Assumes nothing.
+-- what the solver says of them is the fit.
 use mathlib.Core.Path.{_≡_, sym, ap, _∙_}
 use mathlib.Core.List.{List, _++_}
 use Prim.Native.Nat.{ℕ, _+_, _-_, _/_, _<_}

@@ -1,4 +1,4 @@
--- `model_fit::training::predict_peptide` meets its contract: the room holds the design row. Assumes nothing.
+-- `model_fit::training::predict_peptide` meets its contract: the room holds the design row.
 use mathlib.Core.Path.{_≡_, ap, _∙_}
 use mathlib.Core.List.{List}
 use Prim.Native.Nat.{ℕ, _≤_}

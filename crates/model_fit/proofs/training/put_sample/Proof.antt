@@ -1,4 +1,4 @@
--- `model_fit::training::put_sample` meets its contract: the row's first cells are the design row, and the target is put behind them. Assumes nothing.
+-- `model_fit::training::put_sample` meets its contract: the row's first cells are the design row, and the target is put behind them.
 use mathlib.Core.Path.{ap, _∙_}
 use mathlib.Core.List.{List}
 use Prim.Native.Nat.{ℕ, _+_}

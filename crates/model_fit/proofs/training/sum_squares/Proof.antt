@@ -1,5 +1,5 @@
 -- `model_fit::training::sum_squares` meets its contract. The loop's invariant: the sum is that of the training rows among the
--- first k. Assumes nothing.
+-- first k.
 use mathlib.Core.Path.{_≡_, refl, sym, ap, _∙_}
 use mathlib.Core.Bool.{true, false}
 use mathlib.Core.List.{List, [], _∷_, _++_}

@@ -1,4 +1,4 @@
--- `model_fit::training::trains_at` meets its contract: the label is read out of memory as bits, and they say the label. Assumes nothing.
+-- `model_fit::training::trains_at` meets its contract: the label is read out of memory as bits, and they say the label.
 use mathlib.Core.Path.{ap, _∙_}
 use borrow.Author.Needs.{needs, sfits-of}
 use mir.Syntax.{w32}

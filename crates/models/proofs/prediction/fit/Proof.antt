@@ -1,4 +1,4 @@
--- `models::prediction::fit` meets its contract: refused by the status, or fitted. Assumes nothing.
+-- `models::prediction::fit` meets its contract: refused by the status, or fitted.
 use mathlib.Core.Path.{_≡_, sym, ap, _∙_}
 use denote.Ref.{now}
 use Rattle.feature.specs.Status.{accepted}

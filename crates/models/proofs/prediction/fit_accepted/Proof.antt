@@ -1,4 +1,4 @@
--- `models::prediction::fit_accepted` meets its contract: the slices' first cells are lent and come back. Assumes nothing.
+-- `models::prediction::fit_accepted` meets its contract: the slices' first cells are lent and come back.
 use mathlib.Core.Path.{_∙_}
 use mathlib.Core.List.{List}
 use Prim.Native.Nat.{ℕ, _≤_}

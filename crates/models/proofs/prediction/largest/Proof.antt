@@ -1,4 +1,4 @@
--- `models::prediction::largest` meets its contract, model by model. Assumes nothing.
+-- `models::prediction::largest` meets its contract, model by model.
 use borrow.Author.Needs.{needs}
 use Rattle.embedding.proofs.Rows.{one}
 use Rattle.models.proofs.Writing.{two}

@@ -1,4 +1,4 @@
--- `models::prediction::predict` meets its contract: refused by the status, or accepted and done. Assumes nothing.
+-- `models::prediction::predict` meets its contract: refused by the status, or accepted and done.
 use mathlib.Core.Path.{_≡_, sym, ap, _∙_}
 use denote.Ref.{now}
 use Rattle.feature.specs.Status.{accepted}

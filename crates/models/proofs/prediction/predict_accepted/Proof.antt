@@ -1,4 +1,4 @@
--- `models::prediction::predict_accepted` meets its contract: solved and written, or not solved and left. Assumes nothing.
+-- `models::prediction::predict_accepted` meets its contract: solved and written, or not solved and left.
 use mathlib.Core.Path.{_≡_, sym, _∙_}
 use mathlib.Core.Bool.{true, false}
 use mathlib.Core.List.{List}

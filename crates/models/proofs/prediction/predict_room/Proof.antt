@@ -1,4 +1,4 @@
--- `models::prediction::predict_room` meets its contract: each test's value from its fact. Assumes nothing.
+-- `models::prediction::predict_room` meets its contract: each test's value from its fact.
 use mathlib.Core.Path.{refl, sym, _∙_}
 use mathlib.Core.Bool.{true, false}
 use lib.Dec.{leb}

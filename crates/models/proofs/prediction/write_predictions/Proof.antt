@@ -1,5 +1,5 @@
 -- `models::prediction::write_predictions` meets its contract. The loop's invariant: the first i cells are the predictions of the first i rows, and the others
--- are as they were. Assumes nothing.
+-- are as they were.
 use mathlib.Core.Path.{_≡_, refl, sym, _∙_}
 use mathlib.Core.List.{List, _++_, map}
 use Prim.Native.Nat.{ℕ, _+_, _-_, _≤_, _<_}

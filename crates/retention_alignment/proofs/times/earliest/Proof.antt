@@ -1,4 +1,4 @@
--- `retention_alignment::times::earliest` meets its contract: by whether the cell holds a time. Assumes nothing.
+-- `retention_alignment::times::earliest` meets its contract: by whether the cell holds a time.
 use mathlib.Core.Path.{_≡_, sym, ap, _∙_, subst}
 use mathlib.Core.Option.{Option}
 use borrow.Author.Needs.{needs}

@@ -1,4 +1,4 @@
--- `rt_matrix::mean::share` meets its contract. Assumes nothing.
+-- `rt_matrix::mean::share` meets its contract.
 use mathlib.Core.Path.{ap}
 use borrow.Author.Needs.{needs}
 use lib.Ieee.{binary64, div}

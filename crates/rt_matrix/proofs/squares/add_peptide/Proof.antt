@@ -1,4 +1,4 @@
--- `rt_matrix::squares::add_peptide` meets its contract: by whether the peptide is kept. Assumes nothing.
+-- `rt_matrix::squares::add_peptide` meets its contract: by whether the peptide is kept.
 use mathlib.Core.Path.{_≡_, sym, _∙_}
 use borrow.Author.Needs.{needs}
 use denote.Ref.{now}

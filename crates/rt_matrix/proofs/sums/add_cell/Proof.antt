@@ -1,4 +1,4 @@
--- `rt_matrix::sums::add_cell` meets its contract: by whether the cell holds a time. Assumes nothing.
+-- `rt_matrix::sums::add_cell` meets its contract: by whether the cell holds a time.
 use mathlib.Core.Path.{_≡_, refl, sym, ap, _∙_}
 use mathlib.Core.Option.{Option}
 use borrow.Author.Needs.{needs}

@@ -1,4 +1,4 @@
--- `rt_matrix::sums::add_peptide` meets its contract: by whether the peptide is kept. Assumes nothing.
+-- `rt_matrix::sums::add_peptide` meets its contract: by whether the peptide is kept.
 use mathlib.Core.Path.{_≡_, refl, sym, ap, _∙_}
 use native.Mathlib.Omega.{arith}
 use borrow.Author.Needs.{needs}

@@ -1,4 +1,4 @@
--- `run::checks::check` meets its contract: each check's answer, and the first that fails. Assumes nothing.
+-- `run::checks::check` meets its contract: each check's answer, and the first that fails.
 use mathlib.Core.Path.{_∙_}
 use borrow.Author.Needs.{needs}
 use Rattle.run.proofs.CheckLaws.{status-by}

@@ -1,4 +1,4 @@
--- `run::checks::columns_agree` meets its contract: six lengths as four and two. Assumes nothing.
+-- `run::checks::columns_agree` meets its contract: six lengths as four and two.
 use mathlib.Core.Path.{refl}
 use borrow.Author.Needs.{needs}
 use Rattle.run.proofs.CheckLaws.{six-lengths, one-length}

@@ -1,4 +1,4 @@
--- `run::checks::first_failing` meets its contract: by the tests. Assumes nothing.
+-- `run::checks::first_failing` meets its contract: by the tests.
 use borrow.Author.Tests.{not-true, not-false}
 use Rattle.run.proofs.checks.first_failing.Statement.{statement}
 use Rattle.run.proofs.checks.first_failing.Tie as tie

@@ -1,4 +1,4 @@
--- `run::checks::long_enough` meets its contract: test by test. Assumes nothing.
+-- `run::checks::long_enough` meets its contract: test by test.
 use mathlib.Core.Path.{refl}
 use borrow.Author.Needs.{needs}
 use Rattle.run.proofs.checks.long_enough.Statement.{statement}

@@ -1,4 +1,4 @@
--- `run::checks::workspace_fits` meets its contract: peptides × files is within the workspace where peptides is within the quotient. Assumes nothing.
+-- `run::checks::workspace_fits` meets its contract: peptides × files is within the workspace where peptides is within the quotient.
 use mathlib.Core.Path.{sym}
 use borrow.Author.Needs.{needs}
 use Rattle.run.proofs.CheckLaws.{quotient, no-files, too-few, positive}

@@ -1,5 +1,4 @@
 -- `text::decimal::read_decimal` meets its contract: by the length and the first digit, as the definition goes.
--- Assumes nothing.
 use mathlib.Core.Path.{_≡_, sym, ap, _∙_}
 use mathlib.Core.Logic.{⊎-elim}
 use denote.Ref.{now}

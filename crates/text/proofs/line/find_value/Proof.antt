@@ -1,5 +1,4 @@
 -- `text::line::find_value` meets its contract: by where the line ends, and by whether it begins with the key.
--- Assumes nothing.
 use mathlib.Core.Path.{_≡_, sym, ap, _∙_}
 use mathlib.Core.List.{List}
 use Prim.Native.Nat.{ℕ}

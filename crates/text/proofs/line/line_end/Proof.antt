@@ -1,5 +1,4 @@
 -- `text::line::line_end` meets its contract. The loop's invariant: the line ends where it ends from i on.
--- Assumes nothing.
 use mathlib.Core.Path.{_≡_, refl, sym, ap, _∙_}
 use mathlib.Core.List.{List, _∷_}
 use Prim.Native.Nat.{ℕ, _+_, _-_, _≤_}

@@ -1,5 +1,4 @@
 -- `text::write::write_bytes` meets its contract. The loop's invariant: storing what is left of s gives what storing all of it gives.
--- Assumes nothing.
 use mathlib.Core.Path.{_≡_, refl, sym, ap, _∙_}
 use mathlib.Core.List.{List}
 use Prim.Native.Nat.{ℕ, _+_, _-_, _≤_}

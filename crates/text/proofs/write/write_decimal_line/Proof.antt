@@ -1,5 +1,4 @@
 -- `text::write::write_decimal_line` meets its contract: three texts, one written after the other.
--- Assumes nothing.
 use mathlib.Core.Path.{_∙_}
 use mathlib.Core.List.{[], _∷_, _++_}
 use Prim.Native.Nat.{ℕ, _^_}
