@@ -1,4 +1,4 @@
--- Each of document 01's P examples holds. The list is walked by computation, so a wrong definition or a wrong number is refused.
+-- Each of the examples holds. The list is walked by computation, so a wrong definition or a wrong number is refused.
 use mathlib.Core.Path.{_≡_, refl}
 use mathlib.Core.Bool.{true}
 use mathlib.Core.List.{zipWith, headD}
@@ -14,6 +14,7 @@ use Rattle.elimination.specs.Rows.{indexed, augmented}
 use Rattle.elimination.specs.Elimination.{largest, cleared, clearBelow, eliminated, echelonFrom, zeros, divided, lessMultiple, clearAbove, backfillFrom, rowSolved, solvedFrom, eliminate}
 use Rattle.elimination.specs.Ridge.{ridgesFrom, firstSolved}
 use Rattle.gauss.specs.Solve.{solutionOf}
+use Rattle.regression.specs.Regression.{normal, fitOf}
 use Rattle.embedding.specs.Design.{design}
 use Rattle.rt_matrix.specs.Line.{share, present, mean, keptRows, pointOf, points, finiteOr, lineOf, line, lines}
 use Rattle.retention_alignment.specs.Observation.{observations, maxRt, maxRts, times, smaller, minRt, minRts}
@@ -23,5 +24,5 @@ use Rattle.align_text.specs.AlignText.{alignText}
 use Rattle.examples.specs.Examples.{sameList, holds, examples}
 
 pub all-hold : every holds examples ≡ true
-unfolding every sameList examples zipWith headD sub mul div le ofInt ofBits toBits narrowed ceiling isFinite isNormal columnOf placeFrom validAa rowsOf flat trains mask kept indexed augmented zipped largest cleared clearBelow eliminated echelonFrom zeros divided lessMultiple clearAbove backfillFrom rowSolved solvedFrom eliminate ridgesFrom firstSolved solutionOf design tabulate share present mean keptRows pointOf points finiteOr lineOf line lines observations maxRt maxRts times smaller minRt minRts alignments onLine aligned firstFailed statusOf filled slicesAfter alignText
+unfolding every sameList examples zipWith headD sub mul div le ofInt ofBits toBits narrowed ceiling isFinite isNormal columnOf placeFrom validAa rowsOf flat trains mask kept indexed augmented zipped largest cleared clearBelow eliminated echelonFrom zeros divided lessMultiple clearAbove backfillFrom rowSolved solvedFrom eliminate ridgesFrom firstSolved solutionOf normal fitOf design tabulate share present mean keptRows pointOf points finiteOr lineOf line lines observations maxRt maxRts times smaller minRt minRts alignments onLine aligned firstFailed statusOf filled slicesAfter alignText
 all-hold = refl

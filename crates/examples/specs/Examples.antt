@@ -1,8 +1,10 @@
--- Document 01's P examples in its order: numbers that the definitions give, beside the numbers that the document says. Definitions only.
+-- Document 01's P examples in its order, and its table's numbers for three small fits: numbers that the definitions give, beside the numbers
+-- that the document says. Definitions only.
 use Prim.Native.Nat.{ℕ}
 use Prim.Native.String.{String}
 use mathlib.Core.Bool.{Bool, true, false, _&&_}
 use mathlib.Core.List.{List, [], _∷_, _++_, map}
+use mathlib.Core.Option.{Option, none, some}
 use lib.Dec.{eqb}
 use lib.IntN.{pos}
 use lib.ListN.{length, replicate, take, drop}
@@ -14,6 +16,7 @@ use Rattle.float.specs.Number.{number, sumFrom}
 use Rattle.embedding.specs.Design.{design, cTerminalAt}
 use Rattle.elimination.specs.Ridge.{Solution, solved, unsolved}
 use Rattle.gauss.specs.Solve.{solutionOf, statusFor, checked, needed, outputs}
+use Rattle.regression.specs.Regression.{Sample, Values, fitOf, statusOf, valuesOf}
 use Rattle.retention_alignment.specs.Observation.{maxRts}
 use Rattle.retention_alignment.specs.Call.{Input, Slices, rows, status, slicesAfter}
 use Rattle.align_text.specs.AlignText.{alignText}
@@ -136,6 +139,21 @@ five = 0x4014_0000_0000_0000
 abbrev pub aNaN : ℕ
 aNaN = 0x7FF8_0000_0000_0000
 
+-- ---- a fit
+
+-- of order 1 to samples with these cells, given as bits, and the target 5.0: its number and, where it is solved, its ridge as bits and n
+abbrev pub fitNumbers : ℕ → Option Values → List ℕ
+fitNumbers status none = status ∷ []
+fitNumbers status (some v) = status ∷ toBits binary64 (v .ridge) ∷ v .n ∷ []
+
+abbrev pub sample : ℕ → Sample
+sample cell = record { row = ofBits binary64 cell ∷ []; y = ofBits binary64 five }
+
+abbrev pub fit : List ℕ → List ℕ
+fit cells =
+    let outcome = fitOf 1 (map sample cells) .outcome in
+    fitNumbers (statusOf outcome) (valuesOf outcome)
+
 -- ---- the list
 
 unfoldable pub examples : List Example
@@ -185,4 +203,8 @@ examples =
     ∷ record { given = solution 2 (minusOne ∷ 0 ∷ 0 ∷ one ∷ []) (one ∷ one ∷ []); said = 9 ∷ [] }
     -- "left NaN: 9"
     ∷ record { given = solution 1 (aNaN ∷ []) (one ∷ []); said = 9 ∷ [] }
+    -- the table's numbers for a fit: "accepted", with two training rows; "no training row"; "no ridge solves it", with a row of a NaN
+    ∷ record { given = fit (one ∷ one ∷ []); said = 0 ∷ tiny ∷ 2 ∷ [] }
+    ∷ record { given = fit []; said = 8 ∷ [] }
+    ∷ record { given = fit (aNaN ∷ []); said = 9 ∷ [] }
     ∷ []

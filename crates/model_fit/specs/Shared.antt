@@ -4,7 +4,7 @@ use mathlib.Core.Bool.{Bool, true, false}
 use mathlib.Core.List.{List, [], _∷_, _++_}
 use Prim.Native.Nat.{ℕ, _+_, _≤_, _<_}
 use lib.Ieee.{Float}
-use lib.ListN.{length, replicate, take}
+use lib.ListN.{length, replicate, take, drop}
 use Rattle.float.specs.Number.{zero64}
 use Rattle.matrix.specs.Rows.{flat}
 use Rattle.matrix.specs.Lists.{overwritten}
@@ -12,7 +12,7 @@ use Rattle.feature.specs.Checks.{allBelow, maxRows}
 use Rattle.peptide.specs.Table.{Table, HasPeptide, offsetsRight}
 use Rattle.embedding.specs.Design.{orderOf}
 use Rattle.embedding.specs.declared.Model.{Model}
-use Rattle.regression.specs.Regression.{Fit, Sample, extended, normal, sumsOf}
+use Rattle.regression.specs.Regression.{Fit, Sample, extended, normal, sumsOf, dot}
 use Rattle.regression.specs.declared.Sums.{Sums}
 use Rattle.regression.specs.declared.FitOutcome.{FitOutcome}
 use Rattle.regression.specs.declared.FitOutcome.the-variants.{Solved}
@@ -36,6 +36,11 @@ pub record Checked (i : Input) : Type 0 where
   pub observed-long : length (i .observed) ≡ length (i .peptides)
   pub rows-max : length (i .peptides) ≤ maxRows
   pub numbered : Numbered (i .table) (i .peptides)
+
+-- a prediction from a design row of D columns, which stands in the first cells of the lent row
+pub record PeptidePredicted (D : ℕ) (design beta row₀ row₁ : List Float) (r : Float) : Type 0 where
+  pub prediction : r ≡ dot design beta
+  pub row : row₁ ≡ design ++ drop D row₀
 
 -- the normal equations of all samples but the last, which is held back in a row
 pub record HeldBack (D : ℕ) (row equations : List Float) (ss : List Sample) : Type 0 where

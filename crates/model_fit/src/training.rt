@@ -10,11 +10,11 @@ ghost use Rattle.float.specs.Number.{zero64};
 ghost use Rattle.matrix.specs.Rows.{flat};
 ghost use Rattle.feature.specs.Feature.{trains};
 ghost use Rattle.embedding.specs.Design.{orderOf};
-ghost use Rattle.regression.specs.Regression.{Sample, extended, normal, dot, sse};
+ghost use Rattle.regression.specs.Regression.{Sample, extended, normal, sse};
 ghost use Rattle.regression.specs.Solve.{systemLength, Workspace};
 ghost use Rattle.model_fit.specs.Input.{inputOf, tableOf, queryOf};
 ghost use Rattle.model_fit.specs.Samples.{designOf, sampleOf, trainingSamples, fitOn};
-ghost use Rattle.model_fit.specs.Shared.{Listed, Checked, Summed, Accumulated, FittedBy};
+ghost use Rattle.model_fit.specs.Shared.{Listed, Checked, PeptidePredicted, Summed, Accumulated, FittedBy};
 use crate::design::charge_at;
 use crate::design::embed_peptide;
 use embedding::Model;
@@ -166,8 +166,8 @@ fn accumulate(
     sums
 }
 
-// The prediction for a peptide of the table, before it is clamped. `row` is room for the design row. For this crate and the models, which have
-// checked the table.
+// The prediction for a peptide of the table, before it is clamped. The first cells of `row` get the design row, and the rest stays. For this crate and
+// the models, which have checked the table.
 pub fn predict_peptide(
     model: Model,
     peptide: PeptideIx,
@@ -181,7 +181,15 @@ pub fn predict_peptide(
 ) -> f64
     requires { ⌜ Listed (tableOf (now letters) (now offsets) (now masses) (now logs)) (peptide .0) ⌝ }
     requires { ⌜ orderOf model ≤ length (now row) ⌝ }
-    ensures { λ r. ⌜ r ≡ dot (designOf model (tableOf (now (letters .entry)) (now (offsets .entry)) (now (masses .entry)) (now (logs .entry))) (queryOf (peptide .0) charge)) (now (beta .entry)) ⌝ }
+    ensures { λ r. ⌜ PeptidePredicted
+        (orderOf model)
+        (designOf model
+        (tableOf (now (letters .entry)) (now (offsets .entry)) (now (masses .entry)) (now (logs .entry)))
+        (queryOf (peptide .0) charge))
+        (now (beta .entry))
+        (now (row .entry))
+        (now (row .exit))
+        r ⌝ }
 {
     let d = embedding::order(model);
     embed_peptide(model, peptide, charge, letters, offsets, masses, logs, row);

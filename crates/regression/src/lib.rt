@@ -133,12 +133,12 @@ pub fn predict(row: &[f64], beta: &[f64]) -> f64
     let mut k = 0usize;
     while k < row.len() {
         if beta.len() <= k {
-            return sum;
+            return float::canonical64(sum);
         }
         sum = sum + row[k] * beta[k];
         k += 1;
     }
-    sum
+    float::canonical64(sum)
 }
 
 // The share of the targets' variance that a fit with this sum of squared errors explains. It may be

@@ -1,13 +1,13 @@
 -- The answers of the entry points as hosts see them. Definitions only.
 use mathlib.Core.Bool.{true, false}
 use mathlib.Core.List.{List}
+use mathlib.Core.Option.{Option, none, some}
 use mathlib.Core.Path.{_≡_}
 use Prim.Native.Nat.{ℕ}
 use lib.Ieee.{Float, binary32, ofBits}
 use lib.ListN.{length}
 use Rattle.embedding.specs.declared.Model.{Model}
-use Rattle.feature.specs.Status.{accepted, noTraining, notSolved}
-use Rattle.gauss.specs.Solve.{answerOf as solved, checked, solutionOf}
+use Rattle.gauss.specs.Solve.{answerOf as solved, checked, solutionOf, statusOf as solveStatus}
 use Rattle.gauss.specs.declared.SolveAnswer.{SolveAnswer}
 use Rattle.gauss.specs.declared.SolveAnswer.the-variants.{Solved, Unsolved, Refused as NotSolved}
 use Rattle.float.specs.Number.{zero64}
@@ -15,20 +15,19 @@ use Rattle.matrix.specs.declared.ColStep.{ColStep}
 use Rattle.matrix.specs.declared.ColStep.the-variants.{Value, Done}
 use Rattle.model_fit.specs.Input.{Input as FitInput}
 use Rattle.model_fit.specs.Samples.{fitOn}
-use Rattle.models.specs.Call.{answerOf as fitted, fitStatus, predictStatus}
+use Rattle.models.specs.Call.{answerOf as fitted, fitStatus, predictStatus, answerStatus, answerValues}
 use Rattle.models.specs.declared.FitAnswer.{FitAnswer}
-use Rattle.models.specs.declared.FitAnswer.the-variants.{Fitted, Refused as NotFitted}
+use Rattle.records.specs.Record.{numberOf as foundNumber, timeNumberOf}
 use Rattle.records.specs.declared.AlignedTime.{AlignedTime}
 use Rattle.records.specs.declared.AlignedTime.the-variants.{At as Time, Refused as NoTime}
 use Rattle.records.specs.declared.Found.{Found}
 use Rattle.records.specs.declared.Found.the-variants.{At, Refused as NoRecord}
+use Rattle.regression.specs.Regression.{Values, valuesOf, statusOf as outcomeStatus}
 use Rattle.regression.specs.declared.FitOutcome.{FitOutcome}
-use Rattle.regression.specs.declared.FitOutcome.the-variants.{Solved as Fits, NoTrainingRows, NotSolved as NoFit}
 use Rattle.retention_alignment.specs.Call.{Input, Slices, status, answerOf as alignmentOf, numberOf}
 use Rattle.retention_alignment.specs.declared.AlignAnswer.{AlignAnswer}
-use Rattle.run.specs.Call.{Input as RunInput, Slices as RunSlices, status as runStatus, answerOf as ran, fittedBy}
+use Rattle.run.specs.Call.{Input as RunInput, Slices as RunSlices, status as runStatus, answerOf as ran, fittedBy, toldBy}
 use Rattle.run.specs.declared.RunAnswer.{RunAnswer}
-use Rattle.run.specs.declared.RunAnswer.the-variants.{Ran, Refused as NotRun}
 use Rattle.zorkamai.specs.declared.Answer.{Answer}
 use Rattle.zorkamai.specs.declared.CellAnswer.{CellAnswer}
 use Rattle.zorkamai.specs.declared.RecordAnswer.{RecordAnswer}
@@ -48,10 +47,16 @@ zero32 = ofBits binary32 0
 abbrev pub only : ℕ → Answer
 only n = record { status = n; ridge = zero64; r2 = zero64; n = 0 }
 
+-- a status, with the values of a fit that is solved
+abbrev pub withValues : ℕ → Option Values → Answer
+withValues n none = only n
+withValues n (some v) = record { status = n; ridge = v .ridge; r2 = v .r2; n = v .n }
+
+-- each answer by the number, and the values, that its entry point's specs give every case of it
 abbrev pub ofSolve : SolveAnswer → Answer
-ofSolve (Solved ridge) = record { status = accepted; ridge = ridge; r2 = zero64; n = 0 }
-ofSolve Unsolved = only notSolved
-ofSolve (NotSolved n) = only n
+ofSolve (Solved ridge) = record { status = solveStatus (Solved ridge); ridge = ridge; r2 = zero64; n = 0 }
+ofSolve Unsolved = only (solveStatus Unsolved)
+ofSolve (NotSolved n) = only (solveStatus (NotSolved n))
 
 -- the solver's answer to a call
 abbrev pub solveAnswer : (left right : List Float) (n c : ℕ) (workspace solution : List Float) → SolveAnswer
@@ -66,13 +71,10 @@ abbrev pub alignAnswer : Input → Slices → AlignAnswer
 alignAnswer i s = alignmentOf (status i s)
 
 abbrev pub ofOutcome : FitOutcome → Answer
-ofOutcome (Fits ridge r2 n) = record { status = accepted; ridge = ridge; r2 = r2; n = n }
-ofOutcome NoTrainingRows = only noTraining
-ofOutcome NoFit = only notSolved
+ofOutcome o = withValues (outcomeStatus o) (valuesOf o)
 
 abbrev pub ofFit : FitAnswer → Answer
-ofFit (Fitted outcome) = ofOutcome outcome
-ofFit (NotFitted n) = only n
+ofFit a = withValues (answerStatus a) (answerValues a)
 
 -- the answer of a model's `fit`, and of its `predict`, to a call
 abbrev pub fitAnswer : Model → FitInput → (workspace beta : List Float) → FitAnswer
@@ -82,20 +84,24 @@ abbrev pub predictAnswer : Model → FitInput → (workspace beta predicted erro
 predictAnswer model i workspace beta predicted error = fitted (predictStatus model i workspace beta predicted error) (fitOn model i)
 
 abbrev pub ofRun : RunAnswer → RunReport
-ofRun (Ran retention mobility) = record { status = accepted; retention = ofOutcome retention; mobility = ofOutcome mobility }
-ofRun (NotRun n) = record { status = n; retention = only n; mobility = only n }
+ofRun a =
+    record {
+      status = toldBy a .alignment;
+      retention = withValues (toldBy a .retention) (toldBy a .retentionValues);
+      mobility = withValues (toldBy a .mobility) (toldBy a .mobilityValues);
+    }
 
 -- the run's answer to a call
 abbrev pub runAnswer : RunInput → RunSlices → RunAnswer
 runAnswer i s = ran (runStatus i s) (fittedBy i)
 
 abbrev pub ofFound : Found → RecordAnswer
-ofFound (At a) = record { status = accepted; «max_rt» = a .«max_rt»; slope = a .slope; intercept = a .intercept }
-ofFound (NoRecord n) = record { status = n; «max_rt» = zero32; slope = zero32; intercept = zero32 }
+ofFound (At a) = record { status = foundNumber (At a); «max_rt» = a .«max_rt»; slope = a .slope; intercept = a .intercept }
+ofFound (NoRecord n) = record { status = foundNumber (NoRecord n); «max_rt» = zero32; slope = zero32; intercept = zero32 }
 
 abbrev pub ofTime : AlignedTime → TimeAnswer
-ofTime (Time t) = record { status = accepted; aligned = t }
-ofTime (NoTime n) = record { status = n; aligned = zero32 }
+ofTime (Time t) = record { status = timeNumberOf (Time t); aligned = t }
+ofTime (NoTime n) = record { status = timeNumberOf (NoTime n); aligned = zero32 }
 
 abbrev pub ofStep : ColStep → CellAnswer
 ofStep (Value x below) = record { found = true; value = x; row = below .row }

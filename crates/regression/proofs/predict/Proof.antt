@@ -1,5 +1,5 @@
 -- `regression::predict` meets its contract. The loop's invariant: the sum so far with the products of the columns left is the whole sum.
-use mathlib.Core.Path.{_≡_, refl}
+use mathlib.Core.Path.{_≡_, refl, _∙_}
 use mathlib.Core.List.{List, [], _∷_, zipWith}
 use Prim.Native.Nat.{_≤_, _-_, _<_}
 use native.Mathlib.Omega.{arith}
@@ -25,13 +25,23 @@ Inv-loop row beta sum₀ k₀ sum k = (k ≤ length row) × (sumFrom sum (zipWit
 abbrev μ-loop : tie.MeasureT-loop
 μ-loop row beta sum₀ k₀ sum k = length row - k
 
+-- the function's start, as the loop sees it
+abbrev start : tie.At-loop Inv-loop μ-loop → tie.Start Inv-loop μ-loop
+start l = l .before .before .before
+
 loop-holds : tie.Need-loop-holds Inv-loop μ-loop
 unfolding ofBits dot
 loop-holds c = (search needs, refl)
 
+canonical64-requires : tie.Need-canonical64-requires Inv-loop μ-loop
+canonical64-requires c κs = search needs
+
 returns : tie.Need-returns Inv-loop μ-loop
 returns c =
-    rw (drop-of-length-le (now (c .before .before .before .args .beta)) {i = c .before .before .loop .k} (c .if1 .taken), zipWith-nil) at (c .before .before .loop .inv .1)
+    let t = c .before in
+    let l = t .before .before in
+    c .canonical64 .ensures
+    ∙ rw (drop-of-length-le (now (start l .args .beta)) {i = l .loop .k} (t .if1 .taken), zipWith-nil) at (l .loop .inv .1)
 
 mul-sum : tie.Need-mul-sum Inv-loop μ-loop
 mul-sum c = search needs
@@ -55,14 +65,19 @@ loop-again : tie.Need-loop-again Inv-loop μ-loop
 unfolding zipWith
 loop-again c =
     let l = c .before .before .before .before in
-    let a = l .before .args in
+    let a = start l .args in
     let h : l .loop .k < length (now (a .row)) = omega arith in
     let h′ : l .loop .k < length (now (a .beta)) = omega arith in
     (omega arith, rw add-one (rw (drop-cons (now (a .row)) (l .loop .k) nan h, drop-cons (now (a .beta)) (l .loop .k) nan h′) at (l .loop .inv .1)))
 
+canonical64-requires-2 : tie.Need-canonical64-requires-2 Inv-loop μ-loop
+canonical64-requires-2 c κs = search needs
+
 returns-2 : tie.Need-returns-2 Inv-loop μ-loop
 unfolding zipWith
-returns-2 c = rw (drop-of-length-le (now (c .before .before .args .row)) {i = c .before .loop .k} (omega arith)) at (c .before .loop .inv .1)
+returns-2 c =
+    let l = c .before .before in
+    c .canonical642 .ensures ∙ rw (drop-of-length-le (now (start l .args .row)) {i = l .loop .k} (omega arith)) at (l .loop .inv .1)
 
 pub predict-spec : {M : Type 1} → statement M
 predict-spec =
@@ -71,6 +86,7 @@ predict-spec =
     Inv-loop
     μ-loop
     loop-holds
+    canonical64-requires
     returns
     mul-sum
     shared-slice-read-sum
@@ -79,4 +95,5 @@ predict-spec =
     add-k
     loop-less
     loop-again
+    canonical64-requires-2
     returns-2)

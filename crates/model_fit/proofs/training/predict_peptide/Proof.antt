@@ -1,4 +1,4 @@
--- `model_fit::training::predict_peptide` meets its contract: the room holds the design row.
+-- `model_fit::training::predict_peptide` meets its contract: the row's first cells are the design row, as `embed_peptide` says.
 use mathlib.Core.Path.{_≡_, ap, _∙_}
 use mathlib.Core.List.{List}
 use Prim.Native.Nat.{ℕ, _≤_}
@@ -65,7 +65,7 @@ returns c =
     let design : List Float = designOf (a .model) table (queryOf (a .peptide .0) (a .charge)) in
     let x : take (d e) (row e) ≡ design =
     ap (λ (n : ℕ). take n (row e)) (o e .order .ensures) ∙ front-take design _ (row e) (orderOf (a .model)) (e .embed-peptide .ensures) (long e) (s e .pre .1) in
-    c .predict .ensures ∙ ap (λ (r : List Float). dot r (now (a .beta))) x
+    record { prediction = c .predict .ensures ∙ ap (λ (r : List Float). dot r (now (a .beta))) x; row = e .embed-peptide .ensures }
 
 pub predict-peptide-spec : {M : Type 1} → statement M
 predict-peptide-spec =

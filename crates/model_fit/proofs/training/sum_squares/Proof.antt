@@ -135,7 +135,7 @@ loop-again-2 c =
       omega (arith, inside t),
       rw (c .residual-of .ensures)
           (one-more (s .args .model) i (now (s .args .beta)) (l .k) (d .charge-at .result) (x .result) (y .result) (l .sse) (s .pre) (inside t) trained
-          (d .charge-at .ensures) (y .ensures) (x .ensures) (l .inv .1)),
+          (d .charge-at .ensures) (y .ensures) (x .ensures .prediction) (l .inv .1)),
       x .kept .1 .1 .1 .1 .1 .1 .1 .1 .0 ∙ l .inv .2,
     )
 

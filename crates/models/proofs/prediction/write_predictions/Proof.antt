@@ -88,7 +88,7 @@ loop-again c =
     let x = c .before .before .before .predict-peptide in
     let hi = c .before .before .before .before .before .before .before .before .before .largest in
     let v =
-    prediction-at (a .model) table beta peptides charges (l .i) (z .result) (x .result) (hi .result) (c .before .clamp64 .result) (c .narrow .result) t (z .ensures) (x .ensures) (hi .ensures) (c .before .clamp64 .ensures) (c .narrow .ensures) in
+    prediction-at (a .model) table beta peptides charges (l .i) (z .result) (x .result) (hi .result) (c .before .clamp64 .result) (c .narrow .result) t (z .ensures) (x .ensures .prediction) (hi .ensures) (c .before .clamp64 .ensures) (c .narrow .ensures) in
     (omega arith, write-next new (now (a .predicted)) (l .predicted) (l .i) (c .narrow .result) (predictionOf (a .model) table beta (queryOf 0 0)) (omega arith) (omega arith) (l .inv .1) v, simp length-set (l .inv .2), x .kept .1 .1 .1 .1 .1 .1 .1 .1 .0 ∙ l .inv .3)
 
 same-length : tie.Need-same-length Inv-loop μ-loop
