@@ -36,18 +36,20 @@ fn finite_or(x: f64, d: f64) -> f64
     d
 }
 
-// The record of a file with the longest time max, from the sums over its points. The one place that makes a record.
+// The record of a file with the longest time max, from the sums over its points: the intercept from the raw slope. The one place that
+// makes a record.
 fn fit_line(max: u32, s: Sums, sx2: f64) -> Alignment
     ensures { λ r. ⌜ r ≡ lineOf max (s .len) (s .dot) (s .«sum_x») (s .«sum_y») sx2 ⌝ }
 {
     let n = float::u32_to_f64(s.len);
     let x_mean = s.sum_x / n;
     let y_mean = s.sum_y / n;
-    let slope = (s.dot - n * x_mean * y_mean) / sx2;
-    let intercept = y_mean - slope * x_mean;
+    let raw = (s.dot - n * x_mean * y_mean) / sx2;
+    let slope = finite_or(raw, 1.0);
+    let intercept = y_mean - raw * x_mean;
     Alignment {
         max_rt: float::narrow(float::u32_to_f64(max)),
-        slope: float::narrow(finite_or(slope, 1.0)),
+        slope: float::narrow(slope),
         intercept: float::narrow(finite_or(intercept, 0.0)),
     }
 }

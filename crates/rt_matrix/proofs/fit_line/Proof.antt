@@ -13,14 +13,14 @@ use Rattle.rt_matrix.proofs.fit_line.Tie as tie
 u32-to-f64-requires : tie.Need-u32-to-f64-requires
 u32-to-f64-requires c κs = search needs
 
+finite-or-requires : tie.Need-finite-or-requires
+finite-or-requires c κs = search needs
+
 u32-to-f64-requires-2 : tie.Need-u32-to-f64-requires-2
 u32-to-f64-requires-2 c κs = search needs
 
 narrow-requires : tie.Need-narrow-requires
 narrow-requires c κs = search needs
-
-finite-or-requires : tie.Need-finite-or-requires
-finite-or-requires c κs = search needs
 
 narrow-requires-2 : tie.Need-narrow-requires-2
 narrow-requires-2 c κs = search needs
@@ -46,24 +46,25 @@ fitted m n dot sumX sumY sx2 =
 returns : tie.Need-returns
 unfolding lineOf ofBits
 returns c =
-    let d = c .before .before .before .before .before in
-    let a = d .before .before .before .before .before .args in
-    let n = d .before .before .before .before .u32-to-f64 in
-    let m = c .before .before .before .before .narrow .ensures ∙ ap narrowed (d .u32-to-f642 .ensures) in
-    let s = c .before .before .narrow2 .ensures ∙ ap narrowed (c .before .before .before .finite-or .ensures) in
+    let max = c .before .before .before in
+    let tested = max .before .before in
+    let count = tested .before .before .before .before in
+    let a = count .before .args in
+    let m = max .narrow .ensures ∙ ap narrowed (max .before .u32-to-f642 .ensures) in
+    let s = c .before .before .narrow2 .ensures ∙ ap narrowed (tested .finite-or .ensures) in
     let i = c .narrow3 .ensures ∙ ap narrowed (c .before .finite-or2 .ensures) in
     ap (λ (x : Float). rec x (c .before .before .narrow2 .result) (c .narrow3 .result)) m
     ∙ ap₂ (rec (narrowed (number (a .max)))) s i
-    ∙ ap (λ (x : Float). fitted (a .max) x (a .s .dot) (a .s .«sum_x») (a .s .«sum_y») (a .sx2)) (n .ensures)
+    ∙ ap (λ (x : Float). fitted (a .max) x (a .s .dot) (a .s .«sum_x») (a .s .«sum_y») (a .sx2)) (count .u32-to-f64 .ensures)
 
 pub fit-line-spec : {M : Type 1} → statement M
 fit-line-spec =
     tie.close
     (tie.spec
     u32-to-f64-requires
+    finite-or-requires
     u32-to-f64-requires-2
     narrow-requires
-    finite-or-requires
     narrow-requires-2
     finite-or-requires-2
     narrow-requires-3
