@@ -1,5 +1,4 @@
 // Reads a text from standard input and writes the alignment's answer to standard output.
-use align_text::TextAnswer;
 use libc::STDIN_FILENO;
 use libc::STDOUT_FILENO;
 
@@ -8,9 +7,7 @@ fn main() {
     let mut input = [0u8; 65537];
     let n = io::read_full(STDIN_FILENO, &mut input);
     let mut output = [0u8; 8192];
-    // No answer is longer than the output.
-    let TextAnswer::Written(k) = align_text::align_text(&input[..n], &mut output) else {
-        return;
-    };
+    // No answer is longer than the output: an accepted text's lines and a refused one's line are written whole.
+    let k = align_text::written(align_text::align_text(&input[..n], &mut output));
     io::write_all(STDOUT_FILENO, &output[..k]);
 }

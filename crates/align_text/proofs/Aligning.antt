@@ -10,10 +10,10 @@ use lib.Dec.{eqb}
 use lib.ListN.{length, take, length-map}
 use lib.Seq.{take-at}
 use lib.Ieee.{Float}
-use borrow.Author.Tests.{le-leb, eq-eqb}
+use borrow.Author.Tests.{le-leb, eq-eqb, eqb-true}
 use Rattle.feature.specs.Checks as Checks
 use Rattle.feature.specs.Checks.{every, allBelow, lengthsAgree}
-use Rattle.feature.specs.Status.{badFile, badPeptide}
+use Rattle.feature.specs.Status.{accepted}
 use Rattle.rt_matrix.specs.Line.{lines}
 use Rattle.rt_matrix.specs.declared.Alignment.{Alignment}
 use Rattle.matrix.proofs.Lists.{length-tabulate}
@@ -25,8 +25,9 @@ use Rattle.retention_alignment.specs.declared.AlignAnswer.{AlignAnswer}
 use Rattle.retention_alignment.specs.declared.AlignAnswer.the-variants.{Accepted, Refused}
 use Rattle.retention_alignment.proofs.Rows.{length-rows}
 use Rattle.align_output.specs.Output.{statusText, acceptedText}
-use Rattle.align_text.specs.AlignText.{alignmentText, columnsText}
+use Rattle.align_text.specs.AlignText.{alignmentText, columnsText, columnsStatus}
 use Rattle.align_text.specs.Ready.{Ready}
+use Rattle.align_text.proofs.Statuses.{columns-text}
 
 -- slices with room for any input within the limits
 pub record Roomy (s : Slices) : Type 0 where
@@ -40,22 +41,22 @@ pub records-long : (i : Input) → length (recordsFor i) ≡ i .files
 unfolding alignments lines maxRts
 records-long i = length-tabulate _ _ ∙ length-tabulate _ _
 
--- ---- the text by the last two checks
-module _ (a b : Bool) (t : List ℕ) where
-  abbrev text : List ℕ
-  text = cond a (cond b t (statusText badPeptide)) (statusText badFile)
+-- ---- the number in the alignment's answer
+refused-number : (s n : ℕ) → Refused n ≡ answerOf s → (eqb s accepted ≡ false) × (s ≡ n)
+unfolding answerOf
+refused-number s n h = go (eqb s accepted) refl h
+  where
+    go : (b : Bool) → eqb s accepted ≡ b → Refused n ≡ cond b Accepted (Refused s) → (eqb s accepted ≡ false) × (s ≡ n)
+    go true e g = let z : _≡_ {A = ℕ} 0 1 = cc in absurd (omega arith)
+    go false e g = (e, cc)
 
-refused-text : (a b : Bool) (t : List ℕ) (n : ℕ) → Refused n ≡ answerOf (firstFailed true true true a b) → text a b t ≡ statusText n
-unfolding answerOf firstFailed
-refused-text false b t n h = let e : n ≡ 4 = cc in ap statusText (sym e)
-refused-text true false t n h = let e : n ≡ 5 = cc in ap statusText (sym e)
-refused-text true true t n h = cc
-
-accepted-text : (a b : Bool) (t : List ℕ) → Accepted ≡ answerOf (firstFailed true true true a b) → (text a b t ≡ t) × (eqb (firstFailed true true true a b) 0 ≡ true)
-unfolding answerOf firstFailed
-accepted-text false b t h = let z : _≡_ {A = ℕ} 0 1 = cc in absurd (omega arith)
-accepted-text true false t h = let z : _≡_ {A = ℕ} 0 1 = cc in absurd (omega arith)
-accepted-text true true t h = (refl, refl)
+accepted-number : (s : ℕ) → Accepted ≡ answerOf s → eqb s accepted ≡ true
+unfolding answerOf
+accepted-number s h = go (eqb s accepted) refl h
+  where
+    go : (b : Bool) → eqb s accepted ≡ b → Accepted ≡ cond b Accepted (Refused s) → eqb s accepted ≡ true
+    go true e g = e
+    go false e g = let z : _≡_ {A = ℕ} 0 1 = cc in absurd (omega arith)
 
 module _ (i : Input) (out : List ℕ) (d : Ready i out) where
   module _ (s : Slices) (room : Roomy s) where
@@ -86,38 +87,35 @@ module _ (i : Input) (out : List ℕ) (d : Ready i out) where
           le-leb (length (i .file)) (length (s .aligned)) (omega (arith, d .rows, room .aligned)),
         )
 
-    status-is : status i s ≡ firstFailed true true true (allBelow (i .files) (i .file)) (allBelow (i .peptides) (i .peptide))
-    unfolding statusOf
+    -- only the checks of the numbers are left
+    status-is : status i s ≡ columnsStatus i
+    unfolding statusOf firstFailed columnsStatus
     status-is =
         ap (λ (x : Bool). firstFailed x (Checks.withinLimits (i .files) (length (i .file)) (i .peptides)) (longEnough (i .peptides * i .files) (i .files) (length (i .file)) (length (s .workspace)) (length (s .maxRt)) (length (s .slope)) (length (s .intercept)) (length (s .aligned))) (allBelow (i .files) (i .file)) (allBelow (i .peptides) (i .peptide))) lengths-agree
         ∙ ap (λ (x : Bool). firstFailed true x (longEnough (i .peptides * i .files) (i .files) (length (i .file)) (length (s .workspace)) (length (s .maxRt)) (length (s .slope)) (length (s .intercept)) (length (s .aligned))) (allBelow (i .files) (i .file)) (allBelow (i .peptides) (i .peptide))) within
         ∙ ap (λ (x : Bool). firstFailed true true x (allBelow (i .files) (i .file)) (allBelow (i .peptides) (i .peptide))) long
 
   module _ (s t : Slices) (r : AlignAnswer) (w : Aligned i s t r) (room : Roomy s) where
-    abbrev answered : Bool → Bool → AlignAnswer
-    answered a b = answerOf (firstFailed true true true a b)
-
-    answer-is : r ≡ answered (allBelow (i .files) (i .file)) (allBelow (i .peptides) (i .peptide))
+    answer-is : r ≡ answerOf (columnsStatus i)
     answer-is = w .answer ∙ ap answerOf (status-is s room)
 
-    -- a refused alignment
-    pub refused-is : (n : ℕ) → r ≡ Refused n → columnsText i ≡ statusText n
-    unfolding columnsText
-    refused-is n h = refused-text (allBelow (i .files) (i .file)) (allBelow (i .peptides) (i .peptide)) (alignmentText i) n (sym h ∙ answer-is)
+    -- a refused alignment: the number, and the text of it
+    pub refused-is : (n : ℕ) → r ≡ Refused n → (n ≡ columnsStatus i) × (statusText n ≡ columnsText i)
+    refused-is n h =
+        let k = refused-number (columnsStatus i) n (sym h ∙ answer-is) in
+        (sym (k .1), sym (columns-text i ∙ ap (λ (b : Bool). cond b (alignmentText i) (statusText (columnsStatus i))) (k .0) ∙ ap statusText (k .1)))
 
     -- ---- an accepted one
     module _ (h : r ≡ Accepted) where
-      both : (text (allBelow (i .files) (i .file)) (allBelow (i .peptides) (i .peptide)) (alignmentText i) ≡ alignmentText i)
-          × (eqb (firstFailed true true true (allBelow (i .files) (i .file)) (allBelow (i .peptides) (i .peptide))) 0 ≡ true)
-      both = accepted-text (allBelow (i .files) (i .file)) (allBelow (i .peptides) (i .peptide)) (alignmentText i) (sym h ∙ answer-is)
+      passed : eqb (columnsStatus i) accepted ≡ true
+      passed = accepted-number (columnsStatus i) (sym h ∙ answer-is)
 
-      accepted-is : columnsText i ≡ alignmentText i
-      unfolding columnsText
-      accepted-is = both .0
+      text-is : columnsText i ≡ alignmentText i
+      text-is = columns-text i ∙ ap (λ (b : Bool). cond b (alignmentText i) (statusText (columnsStatus i))) passed
 
       filled-is : slicesAfter i s ≡ filled i s
       unfolding slicesAfter
-      filled-is = ap (λ (b : Bool). cond b (filled i s) s) (ap (λ (n : ℕ). eqb n 0) (status-is s room) ∙ both .1)
+      filled-is = ap (λ (b : Bool). cond b (filled i s) s) (ap (λ (n : ℕ). eqb n accepted) (status-is s room) ∙ passed)
 
       field : (f : Alignment → Float) (old : List Float) → take (i .files) (overwritten (map f (recordsFor i)) old) ≡ map f (recordsFor i)
       field f old = take-at (map f (recordsFor i)) _ (i .files) (length-map (recordsFor i) f ∙ records-long i)
@@ -141,12 +139,15 @@ module _ (i : Input) (out : List ℕ) (d : Ready i out) where
       unfolding filled
       times = ap (take (length (i .file))) (w .aligned ∙ ap (λ (x : Slices). x .aligned) filled-is) ∙ take-at (map (aligned (recordsFor i)) (rows i)) _ (length (i .file)) times-long
 
-      -- what is written of them is the definition's text
-      pub written-is : acceptedText (take (i .files) (t .maxRt)) (take (i .files) (t .slope)) (take (i .files) (t .intercept)) (take (length (i .file)) (t .aligned)) ≡ columnsText i
+      -- the number, and what is written of the outputs is the definition's text
+      pub accepted-is : (accepted ≡ columnsStatus i)
+          × (acceptedText (take (i .files) (t .maxRt)) (take (i .files) (t .slope)) (take (i .files) (t .intercept)) (take (length (i .file)) (t .aligned)) ≡ columnsText i)
       unfolding alignmentText
-      written-is =
-          ap (λ (x : List Float). acceptedText x (take (i .files) (t .slope)) (take (i .files) (t .intercept)) (take (length (i .file)) (t .aligned))) max-rts
-          ∙ ap (λ (x : List Float). acceptedText (map (λ a. a .«max_rt») (recordsFor i)) x (take (i .files) (t .intercept)) (take (length (i .file)) (t .aligned))) slopes
-          ∙ ap (λ (x : List Float). acceptedText (map (λ a. a .«max_rt») (recordsFor i)) (map (λ a. a .slope) (recordsFor i)) x (take (length (i .file)) (t .aligned))) intercepts
-          ∙ ap (acceptedText (map (λ a. a .«max_rt») (recordsFor i)) (map (λ a. a .slope) (recordsFor i)) (map (λ a. a .intercept) (recordsFor i))) times
-          ∙ sym accepted-is
+      accepted-is = (
+        sym (eqb-true (columnsStatus i) accepted passed),
+        ap (λ (x : List Float). acceptedText x (take (i .files) (t .slope)) (take (i .files) (t .intercept)) (take (length (i .file)) (t .aligned))) max-rts
+            ∙ ap (λ (x : List Float). acceptedText (map (λ a. a .«max_rt») (recordsFor i)) x (take (i .files) (t .intercept)) (take (length (i .file)) (t .aligned))) slopes
+            ∙ ap (λ (x : List Float). acceptedText (map (λ a. a .«max_rt») (recordsFor i)) (map (λ a. a .slope) (recordsFor i)) x (take (length (i .file)) (t .aligned))) intercepts
+            ∙ ap (acceptedText (map (λ a. a .«max_rt») (recordsFor i)) (map (λ a. a .slope) (recordsFor i)) (map (λ a. a .intercept) (recordsFor i))) times
+            ∙ sym text-is,
+      )

@@ -1,5 +1,5 @@
 -- The answer to a text, by what was read of it: malformed, past a limit, or columns.
-use mathlib.Core.Path.{_≡_, refl, sym, ap, _∙_}
+use mathlib.Core.Path.{_≡_, refl, sym, ap, _∙_, subst}
 use mathlib.Core.Bool.{Bool, true, false, _&&_, cond}
 use mathlib.Core.List.{List, map}
 use mathlib.Core.Option.{Option, none, some}
@@ -11,6 +11,7 @@ use lib.ListN.{length, take, length-map}
 use lib.Seq.{sets, length-sets, sets-eq, take-at}
 use lib.Ieee.{Float}
 use borrow.Author.Tests.{leb-true}
+use Rattle.text.specs.Answer.{Wrote}
 use Rattle.feature.proofs.Laws.{and-true}
 use Rattle.feature.specs.Status.{malformed, pastLimit}
 use Rattle.retention_alignment.specs.Call as Call
@@ -20,15 +21,22 @@ use Rattle.align_input.specs.Input.{Input}
 use Rattle.align_input.specs.Parse.{parse}
 use Rattle.align_input.specs.Columns.{inputRead, qOf, rtOf, Columns, columns, stored}
 use Rattle.align_output.specs.Output.{statusText}
-use Rattle.align_text.specs.AlignText.{maxFiles, maxPeptides, maxRows, withinLimits, columnsOf, columnsText, inputText, answerTo, alignText}
+use Rattle.align_text.specs.AlignText.{maxFiles, maxPeptides, maxRows, withinLimits, columnsOf, columnsText, inputText, answerTo, alignText, columnsStatus, inputStatus, statusTo, textStatus}
+use Rattle.align_text.specs.Buffer.{Stands}
+use Rattle.align_text.specs.declared.Buffered.{Buffered}
 
-pub malformed-is : (t : List ℕ) → IR.Malformed ≡ inputRead (parse t) → alignText t ≡ statusText malformed
-unfolding alignText
+-- an answer in a buffer, by equal numbers and equal texts
+pub restated : {s s′ : ℕ} {x x′ before after : List ℕ} {r : Buffered} → s ≡ s′ → x ≡ x′ → Stands s x before r after → Stands s′ x′ before r after
+restated {s} {s′} {x} {x′} {before} {after} {r} e f h =
+    record { number = h .number ∙ e; wrote = subst (λ (y : List ℕ). Wrote before 0 y (r .length) after) f (h .wrote) }
+
+pub malformed-is : (t : List ℕ) → IR.Malformed ≡ inputRead (parse t) → (malformed ≡ textStatus t) × (statusText malformed ≡ alignText t)
+unfolding alignText textStatus
 malformed-is t h = go (parse t) h
   where
-    go : (o : Option Input) → IR.Malformed ≡ inputRead o → answerTo o ≡ statusText malformed
-    go none e = refl
-    go (some d) e = cc
+    go : (o : Option Input) → IR.Malformed ≡ inputRead o → (malformed ≡ statusTo o) × (statusText malformed ≡ answerTo o)
+    go none e = (refl, refl)
+    go (some d) e = let z : _≡_ {A = ℕ} 0 1 = cc in absurd (omega arith)
 
 input-eq : {fs fs′ ps ps′ : List ℕ} {l l′ : List ℤ} {q q′ t t′ : List Float} {f f′ p p′ : ℕ} → fs ≡ fs′ → ps ≡ ps′ → l ≡ l′ → q ≡ q′ → t ≡ t′ → f ≡ f′ → p ≡ p′
     → _≡_ {A = Call.Input} (record { file = fs; peptide = ps; label = l; q = q; rt = t; files = f; peptides = p }) (record { file = fs′; peptide = ps′; label = l′; q = q′; rt = t′; files = f′; peptides = p′ })
@@ -83,8 +91,15 @@ module _ (t : List ℕ) (f p k : ℕ) (g : Given t f p k) where
   unfolding alignText inputText
   answer-is = ap answerTo (g .parsed) ∙ ap (λ (b : Bool). cond b (columnsText (columnsOf d)) (statusText pastLimit)) within-is
 
-  pub limited-is : withinLimits f p k ≡ false → alignText t ≡ statusText pastLimit
-  limited-is h = answer-is ∙ ap (λ (b : Bool). cond b (columnsText (columnsOf d)) (statusText pastLimit)) h
+  status-is : textStatus t ≡ cond (withinLimits f p k) (columnsStatus (columnsOf d)) pastLimit
+  unfolding textStatus inputStatus columnsStatus
+  status-is = ap statusTo (g .parsed) ∙ ap (λ (b : Bool). cond b (columnsStatus (columnsOf d)) pastLimit) within-is
+
+  pub limited-is : withinLimits f p k ≡ false → (pastLimit ≡ textStatus t) × (statusText pastLimit ≡ alignText t)
+  limited-is h = (
+    sym (status-is ∙ ap (λ (b : Bool). cond b (columnsStatus (columnsOf d)) pastLimit) h),
+    sym (answer-is ∙ ap (λ (b : Bool). cond b (columnsText (columnsOf d)) (statusText pastLimit)) h),
+  )
 
   -- ---- the columns' first cells are the rows
   module _ (h : withinLimits f p k ≡ true) where
@@ -103,5 +118,10 @@ module _ (t : List ℕ) (f p k : ℕ) (g : Given t f p k) where
           let v : take k rt ≡ map rtOf (d .rows) = first-cells k (zs .rt) rt _ (ap (λ (x : Columns). x .rt) e) (counted rtOf) lt in
           input-eq a b c u v (g .files) (g .peptides)
 
-      pub text-is : columnsText (record { file = take k file; peptide = take k peptide; label = take k label; q = take k q; rt = take k rt; files = f; peptides = p }) ≡ alignText t
-      text-is = ap columnsText columns-is ∙ sym (answer-is ∙ ap (λ (b : Bool). cond b (columnsText (columnsOf d)) (statusText pastLimit)) h)
+      -- the columns' number and text are the text's
+      pub aligned-is : (columnsStatus (record { file = take k file; peptide = take k peptide; label = take k label; q = take k q; rt = take k rt; files = f; peptides = p }) ≡ textStatus t)
+          × (columnsText (record { file = take k file; peptide = take k peptide; label = take k label; q = take k q; rt = take k rt; files = f; peptides = p }) ≡ alignText t)
+      aligned-is = (
+        ap columnsStatus columns-is ∙ sym (status-is ∙ ap (λ (b : Bool). cond b (columnsStatus (columnsOf d)) pastLimit) h),
+        ap columnsText columns-is ∙ sym (answer-is ∙ ap (λ (b : Bool). cond b (columnsText (columnsOf d)) (statusText pastLimit)) h),
+      )

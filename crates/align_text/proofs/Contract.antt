@@ -1,49 +1,126 @@
--- The contract of `align_text`, by whether the text fits, and what a caller has of it.
+-- The contract of `align_text`, by whether the text is accepted and whether its answer fits, and what a caller has of it.
 use mathlib.Core.Path.{_≡_, refl, sym, ap, _∙_}
 use mathlib.Core.Bool.{Bool, true, false, cond}
 use mathlib.Core.List.{List, [], _∷_, _++_}
 use Prim.Native.Nat.{ℕ, _+_, _≤_, _<_}
 use native.Mathlib.Omega.{arith}
+use lib.Dec.{eqb}
 use lib.ListN.{length, drop}
 use lib.Seq.{sets, sets-eq}
-use borrow.Author.Tests.{le-leb, lt-leb, leb-true}
+use borrow.Author.Tests.{le-leb, lt-leb, leb-true, eqb-true, eq-eqb, ne-eqb}
 use Rattle.matrix.specs.Lists.{overwritten}
-use Rattle.feature.specs.Status.{accepted, tooShort}
+use Rattle.feature.specs.Status.{accepted, tooShort, firstFailing}
 use Rattle.align_text.specs.declared.TextAnswer.{TextAnswer}
-use Rattle.align_text.specs.declared.TextAnswer.the-variants.{Written, Refused}
-use Rattle.align_text.specs.AlignText.{alignText, fits, numberOf, lengthsIn, Answered}
+use Rattle.align_text.specs.declared.TextAnswer.the-variants.{Accepted, Refused}
+use Rattle.align_text.specs.AlignText.{alignText, textStatus, fits, callStatus, writtenTo, answerOf, numberOf, writtenIn, Answered}
 
-module _ (t before : List ℕ) (n : ℕ) (e : n ≡ 0 + length (alignText t)) where
-  pub no-room : length before < n → Answered t before (Refused tooShort) before
-  unfolding numberOf lengthsIn
-  no-room h =
-      let f : fits (alignText t) before ≡ false = lt-leb (length (alignText t)) (length before) (omega arith) in
+-- the number and the value of an answer are those that it was made of
+number-of : (s n : ℕ) → numberOf (answerOf s n) ≡ s
+unfolding numberOf answerOf
+number-of s n = go (eqb s accepted) refl
+  where
+    go : (b : Bool) → eqb s accepted ≡ b → numberOf (cond b (Accepted n) (Refused s n)) ≡ s
+    go true e = sym (eqb-true s accepted e)
+    go false e = refl
+
+written-of : (s n : ℕ) → writtenIn (answerOf s n) ≡ n
+unfolding answerOf
+written-of s n = go (eqb s accepted)
+  where
+    go : (b : Bool) → writtenIn (cond b (Accepted n) (Refused s n)) ≡ n
+    go true = refl
+    go false = refl
+
+accepted-answer : (s n : ℕ) → s ≡ accepted → Accepted n ≡ answerOf s n
+unfolding answerOf
+accepted-answer s n h = sym (ap (λ (b : Bool). cond b (Accepted n) (Refused s n)) (eq-eqb s accepted h))
+
+refused-answer : (s n : ℕ) → (s ≡ accepted → ⊥) → Refused s n ≡ answerOf s n
+unfolding answerOf
+refused-answer s n h = sym (ap (λ (b : Bool). cond b (Accepted n) (Refused s n)) (ne-eqb s accepted h))
+
+module _ (t before : List ℕ) where
+  -- the number of a call whose answer fits is the text's
+  pub fitting : fits (alignText t) before ≡ true → callStatus t before ≡ textStatus t
+  unfolding callStatus
+  fitting f = go (eqb (textStatus t) accepted) refl (fits (alignText t) before) f
+    where
+      go : (a : Bool) → eqb (textStatus t) accepted ≡ a → (b : Bool) → b ≡ true
+          → firstFailing ((textStatus t, a) ∷ (tooShort, b) ∷ []) ≡ textStatus t
+      go false e b f = refl
+      go true e b f = ap (λ (x : Bool). cond x accepted tooShort) f ∙ sym (eqb-true (textStatus t) accepted e)
+
+  too-long : fits (alignText t) before ≡ false → callStatus t before ≡ cond (eqb (textStatus t) accepted) tooShort (textStatus t)
+  unfolding callStatus
+  too-long f = ap (λ (b : Bool). cond (eqb (textStatus t) accepted) (cond b accepted tooShort) (textStatus t)) f
+
+  -- an answer that is made of the number and of what is written
+  of-parts : (s n : ℕ) (r : TextAnswer) (after : List ℕ) → callStatus t before ≡ s → writtenTo t before ≡ n → r ≡ answerOf s n
+      → after ≡ cond (fits (alignText t) before) (overwritten (alignText t) before) before → Answered t before r after
+  of-parts s n r after e f h o =
       record {
-        answer = sym (ap (λ (b : Bool). cond b (Written (length (alignText t))) (Refused tooShort)) f);
-        number = sym (ap (λ (b : Bool). cond b accepted tooShort) f);
-        values = sym (ap (λ (b : Bool). cond b (length (alignText t) ∷ []) []) f);
-        output = sym (ap (λ (b : Bool). cond b (overwritten (alignText t) before) before) f);
+        answer = h ∙ ap (λ (x : ℕ). answerOf x n) (sym e) ∙ ap (answerOf (callStatus t before)) (sym f);
+        number = ap numberOf h ∙ number-of s n ∙ sym e;
+        values = ap writtenIn h ∙ written-of s n ∙ sym f;
+        output = o;
       }
 
-  pub written : n ≤ length before → (after : List ℕ) → after ≡ sets before 0 (alignText t) → Answered t before (Written n) after
-  unfolding numberOf lengthsIn
-  written h after w =
-      let f : fits (alignText t) before ≡ true = le-leb (length (alignText t)) (length before) (omega arith) in
-      let z : 0 + length (alignText t) ≡ length (alignText t) = omega arith in
-      record {
-        answer = ap Written (e ∙ z) ∙ sym (ap (λ (b : Bool). cond b (Written (length (alignText t))) (Refused tooShort)) f);
-        number = sym (ap (λ (b : Bool). cond b accepted tooShort) f);
-        values = ap (λ (k : ℕ). k ∷ []) (e ∙ z) ∙ sym (ap (λ (b : Bool). cond b (length (alignText t) ∷ []) []) f);
-        output = w
-            ∙ sets-eq (alignText t) before 0 (omega arith)
-            ∙ ap (λ (k : ℕ). alignText t ++ drop k before) z
-            ∙ sym (ap (λ (b : Bool). cond b (overwritten (alignText t) before) before) f);
-      }
+  module _ (s n : ℕ) (es : s ≡ textStatus t) (en : n ≡ 0 + length (alignText t)) where
+    -- ---- no room
+    module _ (h : length before < n) where
+      no : fits (alignText t) before ≡ false
+      no = lt-leb (length (alignText t)) (length before) (omega arith)
+
+      none-written : writtenTo t before ≡ 0
+      none-written = ap (λ (b : Bool). cond b (length (alignText t)) 0) no
+
+      kept : before ≡ cond (fits (alignText t) before) (overwritten (alignText t) before) before
+      kept = sym (ap (λ (b : Bool). cond b (overwritten (alignText t) before) before) no)
+
+      -- 3 for an accepted text
+      pub too-short : s ≡ accepted → Answered t before (Refused tooShort 0) before
+      too-short a =
+          of-parts tooShort 0 _ before
+          (too-long no ∙ ap (λ (b : Bool). cond b tooShort (textStatus t)) (eq-eqb (textStatus t) accepted (sym es ∙ a)))
+          none-written
+          (refused-answer tooShort 0 (λ z. omega arith))
+          kept
+
+      -- the text's number for a refused one
+      pub refused : (s ≡ accepted → ⊥) → Answered t before (Refused s 0) before
+      refused a =
+          of-parts s 0 _ before
+          (too-long no ∙ ap (λ (b : Bool). cond b tooShort (textStatus t)) (ne-eqb (textStatus t) accepted (λ z. a (es ∙ z))) ∙ sym es)
+          none-written
+          (refused-answer s 0 a)
+          kept
+
+    -- ---- written
+    module _ (h : n ≤ length before) (after : List ℕ) (w : after ≡ sets before 0 (alignText t)) where
+      yes : fits (alignText t) before ≡ true
+      yes = le-leb (length (alignText t)) (length before) (omega arith)
+
+      all-written : writtenTo t before ≡ n
+      all-written = ap (λ (b : Bool). cond b (length (alignText t)) 0) yes ∙ omega arith
+
+      set : after ≡ cond (fits (alignText t) before) (overwritten (alignText t) before) before
+      set =
+          let z : 0 + length (alignText t) ≡ length (alignText t) = omega arith in
+          w
+          ∙ sets-eq (alignText t) before 0 (omega arith)
+          ∙ ap (λ (k : ℕ). alignText t ++ drop k before) z
+          ∙ sym (ap (λ (b : Bool). cond b (overwritten (alignText t) before) before) yes)
+
+      pub written-accepted : s ≡ accepted → Answered t before (Accepted n) after
+      written-accepted a = of-parts s n _ after (fitting yes ∙ sym es) all-written (accepted-answer s n a) set
+
+      pub written-refused : (s ≡ accepted → ⊥) → Answered t before (Refused s n) after
+      written-refused a = of-parts s n _ after (fitting yes ∙ sym es) all-written (refused-answer s n a) set
 
 -- what is said to be written fits
-pub written-fits : (t before : List ℕ) (r : TextAnswer) (after : List ℕ) → Answered t before r after → (k : ℕ) → r ≡ Written k → k ≤ length before
-written-fits t before r after w k h = go (fits (alignText t) before) refl (sym h ∙ w .answer)
+pub written-fits : (t before : List ℕ) (r : TextAnswer) (after : List ℕ) → Answered t before r after → writtenIn r ≤ length before
+written-fits t before r after w = go (fits (alignText t) before) refl (w .values)
   where
-    go : (b : Bool) → fits (alignText t) before ≡ b → Written k ≡ cond b (Written (length (alignText t))) (Refused tooShort) → k ≤ length before
-    go true e g = let n : k ≡ length (alignText t) = cc in omega (arith, n, leb-true (length (alignText t)) (length before) e)
-    go false e g = let z : _≡_ {A = ℕ} 0 1 = cc in absurd (omega arith)
+    go : (b : Bool) → fits (alignText t) before ≡ b → writtenIn r ≡ cond b (length (alignText t)) 0 → writtenIn r ≤ length before
+    go true e g = omega (arith, g, leb-true (length (alignText t)) (length before) e)
+    go false e g = omega (arith, g)

@@ -4,3 +4,4 @@ pub mod Answers
 pub mod Contract
 pub mod Examples
 pub mod Longest
+pub mod Statuses

@@ -9,7 +9,7 @@ use lib.ListN.{length, length-map}
 use borrow.Author.Tests.{le-leb}
 use Rattle.matrix.specs.Lists.{overwritten}
 use Rattle.feature.specs.Checks.{allBelow}
-use Rattle.feature.specs.Status.{tooShort, badFile, badPeptide}
+use Rattle.feature.specs.Status.{badFile, badPeptide}
 use Rattle.rt_matrix.specs.declared.Alignment.{Alignment}
 use Rattle.retention_alignment.specs.Alignments.{aligned}
 use Rattle.retention_alignment.specs.Call as Call
@@ -22,10 +22,10 @@ use Rattle.align_input.specs.Columns.{rtOf}
 use Rattle.align_output.specs.Output.{statusText}
 use Rattle.align_output.proofs.Lengths.{status-length, accepted-length}
 use Rattle.align_text.specs.declared.TextAnswer.{TextAnswer}
-use Rattle.align_text.specs.declared.TextAnswer.the-variants.{Written, Refused}
-use Rattle.align_text.specs.AlignText.{withinLimits, columnsOf, alignmentText, columnsText, inputText, answerTo, alignText, fits, Answered}
+use Rattle.align_text.specs.AlignText.{withinLimits, columnsOf, alignmentText, columnsText, inputText, answerTo, alignText, textStatus, fits, writtenTo, answerOf, Answered}
 use Rattle.align_text.proofs.Aligning.{records-long}
 use Rattle.align_text.proofs.Answers.{within}
+use Rattle.align_text.proofs.Contract.{fitting}
 
 abbrev pub longest : ℕ
 longest = 4882
@@ -79,11 +79,13 @@ pub text-short : (t : List ℕ) → length (alignText t) ≤ longest
 unfolding alignText
 text-short t = answer-short (parse t)
 
--- an output of that length takes every answer
+-- an output of that length takes every answer: the call's number is the text's, and what is written is the whole text
 pub always-written : (t before : List ℕ) (r : TextAnswer) (after : List ℕ) → Answered t before r after → longest ≤ length before
-    → (r ≡ Written (length (alignText t))) × (after ≡ overwritten (alignText t) before)
+    → (r ≡ answerOf (textStatus t) (length (alignText t))) × (after ≡ overwritten (alignText t) before)
 always-written t before r after w h =
     let f : fits (alignText t) before ≡ true = le-leb (length (alignText t)) (length before) (omega (arith, text-short t)) in (
-      w .answer ∙ ap (λ (b : Bool). cond b (Written (length (alignText t))) (Refused tooShort)) f,
+      w .answer
+          ∙ ap (λ (s : ℕ). answerOf s (writtenTo t before)) (fitting t before f)
+          ∙ ap (λ (b : Bool). answerOf (textStatus t) (cond b (length (alignText t)) 0)) f,
       w .output ∙ ap (λ (b : Bool). cond b (overwritten (alignText t) before) before) f,
     )

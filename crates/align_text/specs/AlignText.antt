@@ -4,11 +4,11 @@ use mathlib.Core.Path.{_≡_}
 use mathlib.Core.Bool.{Bool, _&&_, cond}
 use mathlib.Core.List.{List, [], _∷_, map}
 use mathlib.Core.Option.{Option, none, some}
-use lib.Dec.{leb}
+use lib.Dec.{eqb, leb}
 use lib.ListN.{length}
 use Rattle.matrix.specs.Lists.{overwritten}
 use Rattle.feature.specs.Checks.{allBelow}
-use Rattle.feature.specs.Status.{accepted, malformed, pastLimit, tooShort, badFile, badPeptide}
+use Rattle.feature.specs.Status.{accepted, malformed, pastLimit, tooShort, badFile, badPeptide, firstFailing}
 use Rattle.rt_matrix.specs.declared.Alignment.{Alignment}
 use Rattle.retention_alignment.specs.Alignments.{aligned}
 use Rattle.retention_alignment.specs.Call as Call
@@ -19,7 +19,7 @@ use Rattle.align_input.specs.Parse.{parse}
 use Rattle.align_input.specs.Columns.{qOf, rtOf}
 use Rattle.align_output.specs.Output.{statusText, acceptedText}
 use Rattle.align_text.specs.declared.TextAnswer.{TextAnswer}
-use Rattle.align_text.specs.declared.TextAnswer.the-variants.{Written, Refused}
+use Rattle.align_text.specs.declared.TextAnswer.the-variants.{Accepted, Refused}
 
 -- the program's limits
 abbrev pub maxFiles : ℕ
@@ -79,23 +79,60 @@ unfoldable pub alignText : List ℕ → List ℕ
 unfolding parse inputText statusText
 alignText t = answerTo (parse t)
 
+-- ---- the number of a text: the first of document 01's checks that fails
+
+-- the checks of columns, in the table's order
+abbrev pub columnChecks : Call.Input → List (ℕ × Bool)
+columnChecks i = (badFile, allBelow (i .files) (i .file)) ∷ (badPeptide, allBelow (i .peptides) (i .peptide)) ∷ []
+
+unfoldable pub columnsStatus : Call.Input → ℕ
+columnsStatus i = firstFailing (columnChecks i)
+
+-- the limits come before
+unfoldable pub inputStatus : Input → ℕ
+unfolding columnsOf
+inputStatus d = firstFailing ((pastLimit, withinLimits (d .files) (d .peptides) (length (d .rows))) ∷ columnChecks (columnsOf d))
+
+abbrev pub statusTo : Option Input → ℕ
+statusTo none = malformed
+statusTo (some d) = inputStatus d
+
+-- 10 comes before all
+unfoldable pub textStatus : List ℕ → ℕ
+unfolding parse inputStatus
+textStatus t = statusTo (parse t)
+
+-- ---- a call
+
 -- whether a text fits a slice
 abbrev pub fits : List ℕ → List ℕ → Bool
 fits text output = leb (length text) (length output)
 
--- the paper's number of an answer: 0 where a text was written, whatever status it says
+-- the number of a call: the text's, and behind it 3 for an answer that does not fit
+unfoldable pub callStatus : (input output : List ℕ) → ℕ
+callStatus input output = firstFailing ((textStatus input, eqb (textStatus input) accepted) ∷ (tooShort, fits (alignText input) output) ∷ [])
+
+-- how many bytes a call writes
+abbrev pub writtenTo : (input output : List ℕ) → ℕ
+writtenTo input output = cond (fits (alignText input) output) (length (alignText input)) 0
+
+-- the answer with a number, and so many bytes written
+unfoldable pub answerOf : (status written : ℕ) → TextAnswer
+answerOf s n = cond (eqb s accepted) (Accepted n) (Refused s n)
+
+-- the paper's number of an answer
 unfoldable pub numberOf : TextAnswer → ℕ
-numberOf (Written n) = accepted
-numberOf (Refused n) = n
+numberOf (Accepted n) = accepted
+numberOf (Refused s n) = s
 
--- the values of an answer: how many bytes were written, or none
-unfoldable pub lengthsIn : TextAnswer → List ℕ
-lengthsIn (Written n) = n ∷ []
-lengthsIn (Refused n) = []
+-- the value of an answer: how many bytes were written
+abbrev pub writtenIn : TextAnswer → ℕ
+writtenIn (Accepted n) = n
+writtenIn (Refused s n) = n
 
--- The contract: the answer, its number, its values, and the whole slice after the call. A text that does not fit is 3, and leaves the slice as it was.
+-- The contract: the answer, its number, its value, and the whole slice after the call. A text that does not fit leaves the slice as it was.
 pub record Answered (input before : List ℕ) (r : TextAnswer) (after : List ℕ) : Type 0 where
-  pub answer : r ≡ cond (fits (alignText input) before) (Written (length (alignText input))) (Refused tooShort)
-  pub number : numberOf r ≡ cond (fits (alignText input) before) accepted tooShort
-  pub values : lengthsIn r ≡ cond (fits (alignText input) before) (length (alignText input) ∷ []) []
+  pub answer : r ≡ answerOf (callStatus input before) (writtenTo input before)
+  pub number : numberOf r ≡ callStatus input before
+  pub values : writtenIn r ≡ writtenTo input before
   pub output : after ≡ cond (fits (alignText input) before) (overwritten (alignText input) before) before

@@ -2,8 +2,9 @@
 ghost use mathlib.Core.Path.{_≡_};
 ghost use Prim.Native.Nat.{_≤_};
 ghost use lib.ListN.{length};
-ghost use Rattle.text.specs.Answer.{Wrote};
-ghost use Rattle.align_text.specs.AlignText.{withinLimits, columnsText, alignText, Answered};
+ghost use Rattle.align_output.specs.Output.{statusText};
+ghost use Rattle.align_text.specs.AlignText.{withinLimits, writtenIn, Answered};
+ghost use Rattle.align_text.specs.Buffer.{Stands, ColumnsStand, TextStands};
 ghost use Rattle.align_text.specs.Ready.{Ready};
 use align_input::InputRead;
 use align_output::write_accepted;
@@ -20,15 +21,32 @@ pub const ROWS_MAX: usize = 256;
 // Cells of the alignment's workspace.
 const CELLS_MAX: usize = 512;
 
-// No answer is longer.
+// Bytes of the buffer that an answer is made in. An answer has at most 4,882.
 const TEXT_MAX: usize = 8192;
 
 // What a call did.
 pub enum TextAnswer {
-    // The answer's bytes stand at the start of the output: so many.
-    Written(usize),
-    // Refused, with the status: 3, the output is too short for the answer, and is as it was.
-    Refused(u8),
+    // The text is accepted, and the answer's bytes stand at the start of the output: so many.
+    Accepted(usize),
+    // The text is refused with the status, and its line stands at the start of the output: `written` bytes, or 0 where
+    // it does not fit and nothing is written. Or 3 and 0: the text is accepted, and its answer does not fit.
+    Refused { status: u8, written: usize },
+}
+
+// An answer that stands at the start of a buffer: the text's status, and the answer's length.
+struct Buffered {
+    status: u8,
+    length: usize,
+}
+
+// How many bytes of the output a call wrote.
+pub fn written(answer: TextAnswer) -> usize
+    ensures { λ r. ⌜ r ≡ writtenIn answer ⌝ }
+{
+    match answer {
+        TextAnswer::Accepted(n) => n,
+        TextAnswer::Refused { status: _, written } => written,
+    }
 }
 
 // Whether numbers of files, peptides and rows are within the program's limits.
@@ -47,7 +65,16 @@ fn limits(files: u32, peptides: u32, rows: usize) -> bool
     rows <= ROWS_MAX
 }
 
-// Aligns rows that are within the program's limits, and writes the answer to out from its start. The place after it is returned.
+// Writes the line of a status to out from its start, as the answer to what has that status.
+fn refuse(status: u8, out: &mut [u8]) -> Buffered
+    requires { ⌜ 18 ≤ length (now out) ⌝ }
+    ensures { λ r. ⌜ Stands status (statusText status) (now (out .entry)) r (now (out .exit)) ⌝ }
+{
+    let length = write_status(out, 0, status);
+    Buffered { status, length }
+}
+
+// Aligns rows that are within the program's limits, and writes the answer to out from its start.
 fn answer_rows(
     file: &[u32],
     peptide: &[u32],
@@ -57,9 +84,21 @@ fn answer_rows(
     files: usize,
     peptides: usize,
     out: &mut [u8],
-) -> usize
+) -> Buffered
     requires { ⌜ Ready (record { file = now file; peptide = now peptide; label = now label; q = now q; rt = now rt; files = files; peptides = peptides }) (now out) ⌝ }
-    ensures { λ r. ⌜ Wrote (now (out .entry)) 0 (columnsText (record { file = now (file .entry); peptide = now (peptide .entry); label = now (label .entry); q = now (q .entry); rt = now (rt .entry); files = files; peptides = peptides })) r (now (out .exit)) ⌝ }
+    ensures { λ r. ⌜ ColumnsStand
+        (record {
+          file = now (file .entry);
+          peptide = now (peptide .entry);
+          label = now (label .entry);
+          q = now (q .entry);
+          rt = now (rt .entry);
+          files = files;
+          peptides = peptides;
+        })
+        (now (out .entry))
+        r
+        (now (out .exit)) ⌝ }
 {
     let rows = file.len();
     let mut workspace = [0.0f64; CELLS_MAX];
@@ -82,21 +121,25 @@ fn answer_rows(
         &mut aligned,
     );
     let AlignAnswer::Refused(status) = answer else {
-        return write_accepted(
+        let length = write_accepted(
             out,
             &max_rt[..files],
             &slope[..files],
             &intercept[..files],
             &aligned[..rows],
         );
+        return Buffered {
+            status: feature::ACCEPTED,
+            length,
+        };
     };
-    write_status(out, 0, status)
+    refuse(status, out)
 }
 
-// Reads a text, and writes its answer to out from its start. The place after it is returned.
-fn answer_text(input: &[u8], out: &mut [u8]) -> usize
+// Reads a text, and writes its answer to out from its start.
+fn answer_text(input: &[u8], out: &mut [u8]) -> Buffered
     requires { ⌜ 8192 ≤ length (now out) ⌝ }
-    ensures { λ r. ⌜ Wrote (now (out .entry)) 0 (alignText (now (input .entry))) r (now (out .exit)) ⌝ }
+    ensures { λ r. ⌜ TextStands (now (input .entry)) (now (out .entry)) r (now (out .exit)) ⌝ }
 {
     let mut file = [0u32; ROWS_MAX];
     let mut peptide = [0u32; ROWS_MAX];
@@ -109,10 +152,10 @@ fn answer_text(input: &[u8], out: &mut [u8]) -> usize
         rows,
     } = align_input::read_input(input, &mut file, &mut peptide, &mut label, &mut q, &mut rt)
     else {
-        return write_status(out, 0, feature::MALFORMED);
+        return refuse(feature::MALFORMED, out);
     };
     if !limits(files, peptides, rows) {
-        return write_status(out, 0, feature::PAST_LIMIT);
+        return refuse(feature::PAST_LIMIT, out);
     }
     answer_rows(
         &file[..rows],
@@ -126,16 +169,27 @@ fn answer_text(input: &[u8], out: &mut [u8]) -> usize
     )
 }
 
-// The program: reads a text and writes its answer at the start of output. Where the answer is longer than output, nothing is written. No answer is
-// longer than 4,882 bytes.
+// The program: reads a text and writes its answer at the start of output. Where the answer is longer than output,
+// nothing is written. No answer is longer than 4,882 bytes.
 pub fn align_text(input: &[u8], output: &mut [u8]) -> TextAnswer
     ensures { λ r. ⌜ Answered (now (input .entry)) (now (output .entry)) r (now (output .exit)) ⌝ }
 {
     let mut buffer = [0u8; TEXT_MAX];
-    let n = answer_text(input, &mut buffer);
+    let answer = answer_text(input, &mut buffer);
+    let status = answer.status;
+    let n = answer.length;
     if output.len() < n {
-        return TextAnswer::Refused(feature::TOO_SHORT);
+        if status == feature::ACCEPTED {
+            return TextAnswer::Refused {
+                status: feature::TOO_SHORT,
+                written: 0,
+            };
+        }
+        return TextAnswer::Refused { status, written: 0 };
     }
     text::write_bytes(output, 0, &buffer[..n]);
-    TextAnswer::Written(n)
+    if status == feature::ACCEPTED {
+        return TextAnswer::Accepted(n);
+    }
+    TextAnswer::Refused { status, written: n }
 }

@@ -10,10 +10,10 @@ use Rattle.align.proofs.main.Statement.{statement}
 use Rattle.align.proofs.main.Tie as tie
 
 -- what was written is a part of the output
-within : (c : tie.After-known-told) → c .before .k .given .0 .0 ≤ length (c .before .before .before .before .align-text .last .1 .0)
+within : (c : tie.After-written) → c .written .result ≤ length (c .before .before .align-text .last .1 .0)
 within c =
-    let a = c .before .before .before .before in
-    omega (arith, written-fits _ _ _ _ (a .align-text .ensures) (c .before .k .given .0 .0) (c .before .k .given .1), a .align-text .kept .1 .0)
+    let a = c .before .before in
+    omega (arith, c .written .ensures, written-fits _ _ _ _ (a .align-text .ensures), a .align-text .kept .1 .0)
 
 slice-aggregate-read-full : tie.Need-slice-aggregate-read-full
 slice-aggregate-read-full c = search needs
@@ -33,14 +33,8 @@ slice-aggregate-align-text-2 c = search needs
 align-text-requires : tie.Need-align-text-requires
 align-text-requires c κs = search needs
 
-enum-known-k : tie.Need-enum-known-k
-enum-known-k c = search needs
-
-enum-told : tie.Need-enum-told
-enum-told c = search needs
-
-returns : tie.Need-returns
-returns c = search needs
+written-requires : tie.Need-written-requires
+written-requires c κs = search needs
 
 array-share-prefix-output : tie.Need-array-share-prefix-output
 array-share-prefix-output c = within c
@@ -51,8 +45,8 @@ slice-aggregate-write-all c = sym (length-take-le _ _ (within (c .before)))
 write-all-requires : tie.Need-write-all-requires
 write-all-requires c κs = search needs
 
-returns-2 : tie.Need-returns-2
-returns-2 c = search needs
+returns : tie.Need-returns
+returns c = search needs
 
 pub main-spec : {M : Type 1} → statement M
 main-spec =
@@ -64,10 +58,8 @@ main-spec =
     slice-aggregate-align-text
     slice-aggregate-align-text-2
     align-text-requires
-    enum-known-k
-    enum-told
-    returns
+    written-requires
     array-share-prefix-output
     slice-aggregate-write-all
     write-all-requires
-    returns-2)
+    returns)

@@ -1,16 +1,15 @@
 -- `align_text::answer_rows` meets its contract: by the alignment's answer, whose parts are written, or whose status is.
-use mathlib.Core.Path.{_≡_, sym, _∙_, subst}
+use mathlib.Core.Path.{_≡_, refl, sym, _∙_}
 use mathlib.Core.List.{List}
 use native.Mathlib.Omega.{arith}
 use lib.ListN.{length, take}
 use lib.Seq.{length-take-le}
 use lib.Ieee.{Float}
 use denote.Ref.{now}
-use Rattle.text.specs.Answer.{Wrote}
 use Rattle.retention_alignment.specs.Call.{Input}
 use Rattle.align_text.specs.Ready.{Ready}
-use Rattle.align_text.proofs.Aligning.{refused-is, written-is}
-use Prim.Native.Nat.{ℕ}
+use Rattle.align_text.proofs.Aligning.{refused-is, accepted-is}
+use Rattle.align_text.proofs.Answers.{restated}
 use borrow.Author.Needs.{needs}
 use Rattle.align_text.proofs.answer_rows.Statement.{statement}
 use Rattle.align_text.proofs.answer_rows.Tie as tie
@@ -109,12 +108,11 @@ returns c =
     let g = w .before .before .before .before .before .before .before .before .before .before .before .before .before in
     let told = w .before .before .before .before .before .before in
     let a = start g .args in
-    subst (λ (x : List ℕ). Wrote (now (a .out)) 0 x (w .write-accepted .result) (w .write-accepted .last .0))
-    (written-is (input g) (now (a .out)) (ready g) _ _ _ (g .global-alignment .ensures) (record { workspace = omega arith; maxRt = omega arith; slope = omega arith; intercept = omega arith; aligned = omega arith }) (told .enum-told .given .1))
-    (w .write-accepted .ensures)
+    let h = accepted-is (input g) (now (a .out)) (ready g) _ _ _ (g .global-alignment .ensures) (record { workspace = omega arith; maxRt = omega arith; slope = omega arith; intercept = omega arith; aligned = omega arith }) (told .enum-told .given .1) in
+    restated (h .0) (h .1) (record { number = refl; wrote = w .write-accepted .ensures })
 
-write-status-requires : tie.Need-write-status-requires
-write-status-requires c κs = search needs
+refuse-requires : tie.Need-refuse-requires
+refuse-requires c κs = search needs
 
 same-length-2 : tie.Need-same-length-2
 same-length-2 c = search needs
@@ -124,10 +122,8 @@ returns-2 c =
     let w = c .before .before in
     let k = w .before .before .before in
     let g = k .before .before .before .before .before .before .before in
-    let a = start g .args in
-    subst (λ (x : List ℕ). Wrote (now (a .out)) 0 x (w .write-status .result) (w .write-status .last .0))
-    (sym (refused-is (input g) (now (a .out)) (ready g) _ _ _ (g .global-alignment .ensures) (record { workspace = omega arith; maxRt = omega arith; slope = omega arith; intercept = omega arith; aligned = omega arith }) _ (k .answer .given .1)))
-    (w .write-status .ensures)
+    let h = refused-is (input g) (now (start g .args .out)) (ready g) _ _ _ (g .global-alignment .ensures) (record { workspace = omega arith; maxRt = omega arith; slope = omega arith; intercept = omega arith; aligned = omega arith }) _ (k .answer .given .1) in
+    restated (h .0) (h .1) (w .refuse .ensures)
 
 pub answer-rows-spec : {M : Type 1} → statement M
 answer-rows-spec =
@@ -152,6 +148,6 @@ answer-rows-spec =
     write-accepted-requires
     same-length
     returns
-    write-status-requires
+    refuse-requires
     same-length-2
     returns-2)

@@ -1,5 +1,5 @@
 -- `align_text::answer_text` meets its contract: by what was read, and by the limits.
-use mathlib.Core.Path.{_≡_, sym, _∙_, subst}
+use mathlib.Core.Path.{_≡_, sym, _∙_}
 use mathlib.Core.Bool.{true}
 use mathlib.Core.List.{List}
 use Prim.Native.Nat.{ℕ, _≤_}
@@ -10,9 +10,8 @@ use lib.ListN.{length}
 use lib.Seq.{length-take-le}
 use denote.Ref.{now}
 use borrow.Author.Tests.{not-true, not-false}
-use Rattle.text.specs.Answer.{Wrote}
 use Rattle.align_text.specs.AlignText.{withinLimits}
-use Rattle.align_text.proofs.Answers.{malformed-is, Given, given-by, Within, within, limited-is, text-is}
+use Rattle.align_text.proofs.Answers.{malformed-is, Given, given-by, Within, within, limited-is, aligned-is, restated}
 use borrow.Author.Needs.{needs}
 use Rattle.align_text.proofs.answer_text.Statement.{statement}
 use Rattle.align_text.proofs.answer_text.Tie as tie
@@ -97,8 +96,8 @@ enum-known-files c = search needs
 enum-told : tie.Need-enum-told
 enum-told c = search needs
 
-write-status-requires : tie.Need-write-status-requires
-write-status-requires c κs = search needs
+refuse-requires : tie.Need-refuse-requires
+refuse-requires c κs = search needs
 
 same-length : tie.Need-same-length
 same-length c = search needs
@@ -108,16 +107,14 @@ returns c =
     let w = c .before .before in
     let m = w .before .before in
     let r = m .before .before .before .before .before .before .before in
-    let a = start r .args in
-    subst (λ (x : List ℕ). Wrote (now (a .out)) 0 x (w .write-status .result) (w .write-status .last .0))
-    (sym (malformed-is (now (a .input)) (sym (m .enum-told .given .1) ∙ r .read-input .ensures .0)))
-    (w .write-status .ensures)
+    let h = malformed-is (now (start r .args .input)) (sym (m .enum-told .given .1) ∙ r .read-input .ensures .0) in
+    restated (h .0) (h .1) (w .refuse .ensures)
 
 limits-requires : tie.Need-limits-requires
 limits-requires c κs = search needs
 
-write-status-requires-2 : tie.Need-write-status-requires-2
-write-status-requires-2 c κs = search needs
+refuse-requires-2 : tie.Need-refuse-requires-2
+refuse-requires-2 c κs = search needs
 
 same-length-2 : tie.Need-same-length-2
 same-length-2 c = search needs
@@ -127,10 +124,8 @@ returns-2 c =
     let w = c .before .before in
     let l = w .before .before .before in
     let f = l .before .before in
-    let a = start (read f) .args in
-    subst (λ (x : List ℕ). Wrote (now (a .out)) 0 x (w .write-status2 .result) (w .write-status2 .last .0))
-    (sym (limited-is (now (a .input)) _ _ _ (given f) (sym (l .limits .ensures) ∙ not-true _ (w .before .before .if1 .taken))))
-    (w .write-status2 .ensures)
+    let h = limited-is (now (start (read f) .args .input)) _ _ _ (given f) (sym (l .limits .ensures) ∙ not-true _ (w .before .before .if1 .taken)) in
+    restated (h .0) (h .1) (w .refuse2 .ensures)
 
 array-share-prefix-file : tie.Need-array-share-prefix-file
 array-share-prefix-file c = cells c .file
@@ -197,11 +192,10 @@ returns-3 c =
     let e = w .before .before .before .before .before .before .before in
     let f = e .before .before .before in
     let r = read f in
-    let a = start r .args in
+    let t = now (start r .args .input) in
     let d = cells e in
-    subst (λ (x : List ℕ). Wrote (now (a .out)) 0 x (w .answer-rows .result) (w .answer-rows .last .1 .1 .1 .1 .1 .1 .1 .0))
-    (text-is (now (a .input)) _ _ _ (given f) (passed e) _ _ _ _ _ _ (r .read-input .ensures .1 (given f .input) (given f .parsed)) (d .file) (d .peptide) (d .label) (d .q) (d .rt))
-    (w .answer-rows .ensures)
+    let h = aligned-is t _ _ _ (given f) (passed e) _ _ _ _ _ _ (r .read-input .ensures .1 (given f .input) (given f .parsed)) (d .file) (d .peptide) (d .label) (d .q) (d .rt) in
+    restated (h .0) (h .1) (w .answer-rows .ensures)
 
 pub answer-text-spec : {M : Type 1} → statement M
 answer-text-spec =
@@ -215,11 +209,11 @@ answer-text-spec =
     read-input-requires
     enum-known-files
     enum-told
-    write-status-requires
+    refuse-requires
     same-length
     returns
     limits-requires
-    write-status-requires-2
+    refuse-requires-2
     same-length-2
     returns-2
     array-share-prefix-file

@@ -10,10 +10,10 @@ use Rattle.align_text_vectors.proofs.answer.Statement.{statement}
 use Rattle.align_text_vectors.proofs.answer.Tie as tie
 
 -- what was written is a part of the output
-within : (c : tie.After-known-told) → c .before .n .given .0 .0 ≤ length (c .before .before .before .before .align-text .last .1 .0)
+within : (c : tie.After-written) → c .written .result ≤ length (c .before .before .align-text .last .1 .0)
 within c =
-    let a = c .before .before .before .before in
-    omega (arith, written-fits _ _ _ _ (a .align-text .ensures) (c .before .n .given .0 .0) (c .before .n .given .1), a .align-text .kept .1 .0)
+    let a = c .before .before in
+    omega (arith, c .written .ensures, written-fits _ _ _ _ (a .align-text .ensures), a .align-text .kept .1 .0)
 
 slice-aggregate-align-text : tie.Need-slice-aggregate-align-text
 slice-aggregate-align-text c = search needs
@@ -21,14 +21,8 @@ slice-aggregate-align-text c = search needs
 align-text-requires : tie.Need-align-text-requires
 align-text-requires c κs = search needs
 
-enum-known-n : tie.Need-enum-known-n
-enum-known-n c = search needs
-
-enum-told : tie.Need-enum-told
-enum-told c = search needs
-
-returns : tie.Need-returns
-returns c = search needs
+written-requires : tie.Need-written-requires
+written-requires c κs = search needs
 
 write-token-requires : tie.Need-write-token-requires
 write-token-requires c κs = search needs
@@ -42,8 +36,8 @@ slice-aggregate-write-all c = sym (length-take-le _ _ (within (c .before .before
 write-all-requires : tie.Need-write-all-requires
 write-all-requires c κs = search needs
 
-returns-2 : tie.Need-returns-2
-returns-2 c = search needs
+returns : tie.Need-returns
+returns c = search needs
 
 pub answer-spec : {M : Type 1} → statement M
 answer-spec =
@@ -51,11 +45,9 @@ answer-spec =
     (tie.spec
     slice-aggregate-align-text
     align-text-requires
-    enum-known-n
-    enum-told
-    returns
+    written-requires
     write-token-requires
     array-share-prefix-output
     slice-aggregate-write-all
     write-all-requires
-    returns-2)
+    returns)
