@@ -1,18 +1,21 @@
--- The contract of `align_text`, by whether the text is accepted and whether its answer fits, and what a caller has of it.
+-- The contract of `align_text`, by whether the text is accepted and whether its answer fits; and what a caller has of
+-- it: what was written fits, and what a refused call wrote is the line of its number.
 use mathlib.Core.Path.{_≡_, refl, sym, ap, _∙_}
 use mathlib.Core.Bool.{Bool, true, false, cond}
 use mathlib.Core.List.{List, [], _∷_, _++_}
 use Prim.Native.Nat.{ℕ, _+_, _≤_, _<_}
 use native.Mathlib.Omega.{arith}
 use lib.Dec.{eqb}
-use lib.ListN.{length, drop}
-use lib.Seq.{sets, sets-eq}
+use lib.ListN.{length, take, drop}
+use lib.Seq.{sets, sets-eq, take-at}
 use borrow.Author.Tests.{le-leb, lt-leb, leb-true, eqb-true, eq-eqb, ne-eqb}
 use Rattle.matrix.specs.Lists.{overwritten}
 use Rattle.feature.specs.Status.{accepted, tooShort, firstFailing}
+use Rattle.align_output.specs.Output.{statusText}
 use Rattle.align_text.specs.declared.TextAnswer.{TextAnswer}
 use Rattle.align_text.specs.declared.TextAnswer.the-variants.{Accepted, Refused}
 use Rattle.align_text.specs.AlignText.{alignText, textStatus, fits, callStatus, writtenTo, answerOf, numberOf, writtenIn, Answered}
+use Rattle.align_text.proofs.Statuses.{refused-text}
 
 -- the number and the value of an answer are those that it was made of
 number-of : (s n : ℕ) → numberOf (answerOf s n) ≡ s
@@ -124,3 +127,26 @@ written-fits t before r after w = go (fits (alignText t) before) refl (w .values
     go : (b : Bool) → fits (alignText t) before ≡ b → writtenIn r ≡ cond b (length (alignText t)) 0 → writtenIn r ≤ length before
     go true e g = omega (arith, g, leb-true (length (alignText t)) (length before) e)
     go false e g = omega (arith, g)
+
+refused-number : (s n m k : ℕ) → Refused s n ≡ answerOf m k → eqb m accepted ≡ false
+unfolding answerOf
+refused-number s n m k h = go (eqb m accepted) refl h
+  where
+    go : (b : Bool) → eqb m accepted ≡ b → Refused s n ≡ cond b (Accepted k) (Refused m k) → eqb m accepted ≡ false
+    go true e g = let z : _≡_ {A = ℕ} 0 1 = cc in absurd (omega arith)
+    go false e g = e
+
+-- what a refused call wrote is the line of the number that it answers
+pub refused-line : (t before after : List ℕ) (s n : ℕ) → Answered t before (Refused s n) after → 0 < n → take n after ≡ statusText s
+unfolding numberOf
+refused-line t before after s n w h = go (fits (alignText t) before) refl (w .values)
+  where
+    go : (b : Bool) → fits (alignText t) before ≡ b → n ≡ cond b (length (alignText t)) 0 → take n after ≡ statusText s
+    go false e v = absurd (omega (arith, v, h))
+    go true e v =
+        let f = fitting t before e in
+        let r = refused-number s n (callStatus t before) (writtenTo t before) (w .answer) in
+        ap (take n) (w .output ∙ ap (λ (b : Bool). cond b (overwritten (alignText t) before) before) e)
+        ∙ take-at (alignText t) _ n (sym v)
+        ∙ refused-text t (ap (λ (m : ℕ). eqb m accepted) (sym f) ∙ r)
+        ∙ ap statusText (sym (w .number ∙ f))

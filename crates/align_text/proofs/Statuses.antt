@@ -1,5 +1,5 @@
--- The number of a text and the text of its answer: a refused text is answered with the line of its number, an accepted one with its alignment, whose first
--- line is that of 0. So the number that a call answers is the number that stands in what it writes.
+-- The number of a text and the text of its answer: a refused text is answered with the line of its number, an accepted
+-- one with its alignment, whose first line is that of 0. So the number of a text is the one that its answer says.
 use mathlib.Core.Path.{_≡_, refl, sym, ap, _∙_, subst}
 use mathlib.Core.Bool.{Bool, true, false, cond}
 use mathlib.Core.List.{List, [], _∷_, _++_, append-nil, flatten}

@@ -91,7 +91,8 @@ columnsStatus i = firstFailing (columnChecks i)
 -- the limits come before
 unfoldable pub inputStatus : Input → ℕ
 unfolding columnsOf
-inputStatus d = firstFailing ((pastLimit, withinLimits (d .files) (d .peptides) (length (d .rows))) ∷ columnChecks (columnsOf d))
+inputStatus d =
+    firstFailing ((pastLimit, withinLimits (d .files) (d .peptides) (length (d .rows))) ∷ columnChecks (columnsOf d))
 
 abbrev pub statusTo : Option Input → ℕ
 statusTo none = malformed
@@ -110,7 +111,8 @@ fits text output = leb (length text) (length output)
 
 -- the number of a call: the text's, and behind it 3 for an answer that does not fit
 unfoldable pub callStatus : (input output : List ℕ) → ℕ
-callStatus input output = firstFailing ((textStatus input, eqb (textStatus input) accepted) ∷ (tooShort, fits (alignText input) output) ∷ [])
+callStatus input output =
+    firstFailing ((textStatus input, eqb (textStatus input) accepted) ∷ (tooShort, fits (alignText input) output) ∷ [])
 
 -- how many bytes a call writes
 abbrev pub writtenTo : (input output : List ℕ) → ℕ
@@ -130,7 +132,8 @@ abbrev pub writtenIn : TextAnswer → ℕ
 writtenIn (Accepted n) = n
 writtenIn (Refused s n) = n
 
--- The contract: the answer, its number, its value, and the whole slice after the call. A text that does not fit leaves the slice as it was.
+-- The contract: the answer, its number, its value, and the whole slice after the call. An answer that does not fit
+-- leaves the slice as it was.
 pub record Answered (input before : List ℕ) (r : TextAnswer) (after : List ℕ) : Type 0 where
   pub answer : r ≡ answerOf (callStatus input before) (writtenTo input before)
   pub number : numberOf r ≡ callStatus input before

@@ -1,4 +1,5 @@
--- An answer at the start of a buffer: the number of what is answered, the place after the answer, and the whole buffer. Definitions only.
+-- An answer at the start of a buffer: the number of what is answered, the place after the answer, and the whole
+-- buffer. Definitions only.
 use Prim.Native.Nat.{ℕ}
 use mathlib.Core.Path.{_≡_}
 use mathlib.Core.List.{List}

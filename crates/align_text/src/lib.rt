@@ -85,7 +85,17 @@ fn answer_rows(
     peptides: usize,
     out: &mut [u8],
 ) -> Buffered
-    requires { ⌜ Ready (record { file = now file; peptide = now peptide; label = now label; q = now q; rt = now rt; files = files; peptides = peptides }) (now out) ⌝ }
+    requires { ⌜ Ready
+        (record {
+          file = now file;
+          peptide = now peptide;
+          label = now label;
+          q = now q;
+          rt = now rt;
+          files = files;
+          peptides = peptides;
+        })
+        (now out) ⌝ }
     ensures { λ r. ⌜ ColumnsStand
         (record {
           file = now (file .entry);
