@@ -1,8 +1,9 @@
-// Functions of `float` under C names, for a test of the bits of a NaN in compiled code.
+// Functions that return a float under C names, for a test of the bits of a NaN in compiled code.
 ghost use mathlib.Core.Path.{_≡_};
 ghost use lib.Ieee.{binary32, binary64, ofBits};
 ghost use Rattle.float.specs.Convert.{narrowed};
 ghost use Rattle.float.specs.Value.{magnitude, minimum, clamped};
+ghost use Rattle.regression.specs.Regression.{dot};
 
 #[no_mangle]
 pub extern "C" fn zk_canonical64(x: f64) -> f64
@@ -65,4 +66,11 @@ pub extern "C" fn zk_from_bits32(b: u32) -> f32
     ensures { λ r. ⌜ r ≡ ofBits binary32 b ⌝ }
 {
     float::from_bits32(b)
+}
+
+#[no_mangle]
+pub extern "C" fn zk_predict(row: &[f64], beta: &[f64]) -> f64
+    ensures { λ r. ⌜ r ≡ dot (now (row .entry)) (now (beta .entry)) ⌝ }
+{
+    regression::predict(row, beta)
 }

@@ -1,9 +1,9 @@
-//! The compiled functions of the crate `float`, and NaNs of many payloads and both signs to try them
-//! on. To the proofs there is one NaN and it has no bits, so what the bits of a result are only a
-//! test of the compiled code can tell. `rt staticlib float_export` makes the library, `cargo test
-//! --offline` tests it.
+//! Compiled functions that return a float, those of the crate `float` and `regression::predict`, and
+//! NaNs of many payloads and both signs to try them on. To the proofs there is one NaN and it has no
+//! bits, so what the bits of a result are only a test of the compiled code can tell. `rt staticlib
+//! float_export` makes the library, `cargo test --offline` tests it.
 
-// Safe: each takes numbers by value, has no `requires` and touches no memory.
+// Safe where it says so: such a function takes numbers by value, has no `requires` and touches no memory.
 unsafe extern "C" {
     #[link_name = "zk_canonical64"]
     pub safe fn canonical64(x: f64) -> f64;
@@ -23,6 +23,14 @@ unsafe extern "C" {
     pub safe fn from_bits64(b: u64) -> f64;
     #[link_name = "zk_from_bits32"]
     pub safe fn from_bits32(b: u32) -> f32;
+    // A slice is passed as a pointer and a length.
+    fn zk_predict(row: *const f64, rows: usize, beta: *const f64, betas: usize) -> f64;
+}
+
+/// The sum of `row[k] * beta[k]`, as far as both reach.
+pub fn predict(row: &[f64], beta: &[f64]) -> f64 {
+    // SAFETY: the pointers and lengths are those of live slices, which are only read.
+    unsafe { zk_predict(row.as_ptr(), row.len(), beta.as_ptr(), beta.len()) }
 }
 
 /// The pattern that an f64 NaN is always written as.

@@ -49,6 +49,28 @@ fn f32_nans() {
     }
 }
 
+/// A NaN that a prediction makes, and one that it is handed, in its row or its coefficients, alone or
+/// among numbers, and where the coefficients end first.
+#[test]
+fn predictions() {
+    is64("predict inf times 0", 0, predict(&[f64::INFINITY], &[0.0]), NAN64);
+    is64(
+        "predict inf less inf",
+        0,
+        predict(&[f64::INFINITY, 1.0], &[1.0, f64::NEG_INFINITY]),
+        NAN64,
+    );
+    is64("predict of nothing", 0, predict(&[], &[]), 0);
+    is64("predict", 0, predict(&[1.5, 2.0, 3.0], &[2.0, 0.5]), 4f64.to_bits());
+    for b in nans64() {
+        let x = f64::from_bits(b);
+        is64("predict by a NaN", b, predict(&[1.0], &[x]), NAN64);
+        is64("predict of a NaN", b, predict(&[x], &[1.0]), NAN64);
+        is64("predict of a NaN among numbers", b, predict(&[1.0, x, 2.0], &[3.0, 1.0, 4.0]), NAN64);
+        is64("predict to the end of beta", b, predict(&[x, 2.0, 3.0], &[1.0, 4.0]), NAN64);
+    }
+}
+
 #[test]
 fn numbers_stay() {
     for b in values64() {
