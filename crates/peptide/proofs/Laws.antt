@@ -1,6 +1,6 @@
 -- Laws of the peptide table: how a loop goes through the offsets, and what a table that passes says of each peptide.
 use mathlib.Core.Path.{_≡_, refl, ap, _∙_}
-use mathlib.Core.Bool.{Bool, true, false, _&&_, cond}
+use mathlib.Core.Bool.{Bool, true, false, _&&_, cond, not}
 use mathlib.Core.List.{List, [], _∷_}
 use Prim.Native.Nat.{ℕ, zero, suc, _+_, _-_, _≤_, _<_}
 use native.Mathlib.Nat.{le-of-suc-le-suc, not-suc-le-zero}
@@ -12,7 +12,7 @@ use lib.Seq.{drop-cons, length-take-le}
 use borrow.Author.Tests.{leb-true, eqb-true, eqb-false}
 use Rattle.mass.specs.Mass.{isLetter}
 use Rattle.feature.specs.Checks.{every}
-use Rattle.feature.specs.Status.{accepted, badOffsets, badLetter}
+use Rattle.feature.specs.Status.{accepted, badOffsets, badLetter, firstFailing}
 use Rattle.feature.proofs.Laws.{and-true, every-take, every-drop}
 use Rattle.peptide.specs.Table.{maxLength, climbs, offsetsRight, lettersRight, tableStatus, startOf, endOf, sequenceOf, HasPeptide}
 
@@ -83,13 +83,25 @@ offsets-peptide letters (o ∷ offsets) peptides p e h =
     let next : getD (o ∷ offsets) (p + 1) 0 ≡ getD offsets p 0 = ap (λ (k : ℕ). getD (o ∷ offsets) k 0) (add-one p) in
     record { numbered = omega arith; rising = rw next (t .0); within = rw next (t .1); short = rw next (t .2) }
 
--- ---- what a table that passes says
+-- ---- the first check that fails
 
--- the status, where check 7 has this value and check 6 that
-pub status-is : (letters offsets : List ℕ) (peptides : ℕ) (a b : Bool) → offsetsRight peptides (length letters) offsets ≡ a → lettersRight letters ≡ b
-    → cond a (cond b accepted badLetter) badOffsets ≡ tableStatus letters offsets peptides
+-- a check that fails, before all others
+pub fails : (passed : Bool) (later status : ℕ) → not passed ≡ true → status ≡ cond passed later status
+fails true later status e = cc
+fails false later status e = refl
+
+-- a check that passes, before the others
+pub passes : (passed : Bool) (later status answer : ℕ) → not passed ≡ false → answer ≡ later → answer ≡ cond passed later status
+passes true later status answer e same = same
+passes false later status answer e same = cc
+
+-- ---- the table's status
+
+-- by the values of checks 7 and 6
+pub status-by : (letters offsets : List ℕ) (peptides : ℕ) (a b : Bool) (status : ℕ) → a ≡ offsetsRight peptides (length letters) offsets → b ≡ lettersRight letters
+    → status ≡ firstFailing ((badOffsets, a) ∷ (badLetter, b) ∷ []) → status ≡ tableStatus letters offsets peptides
 unfolding tableStatus
-status-is letters offsets peptides a b e f = rw (e, f)
+status-by letters offsets peptides a b status seven six first = rw (seven, six) at first
 
 passed : (a b : Bool) → cond a (cond b accepted badLetter) badOffsets ≡ accepted → (a ≡ true) × (b ≡ true)
 passed true true e = (refl, refl)
@@ -98,7 +110,20 @@ passed false b e = absurd (eqb-false badOffsets accepted refl e)
 
 -- a table that passes has passed both
 pub status-accepted : (letters offsets : List ℕ) (peptides : ℕ) → tableStatus letters offsets peptides ≡ accepted → (offsetsRight peptides (length letters) offsets ≡ true) × (lettersRight letters ≡ true)
-status-accepted letters offsets peptides e = passed _ _ (status-is letters offsets peptides _ _ refl refl ∙ e)
+unfolding tableStatus
+status-accepted letters offsets peptides e = passed (offsetsRight peptides (length letters) offsets) (lettersRight letters) e
+
+-- the status in front of other checks, which is that of checks 7 and 6 in front of them
+table-first-by : (a b : Bool) (later : ℕ) → (let s = cond a (cond b accepted badLetter) badOffsets in cond (eqb s accepted) later s) ≡ cond a (cond b later badLetter) badOffsets
+table-first-by true true later = refl
+table-first-by true false later = refl
+table-first-by false b later = refl
+
+pub table-first : (letters offsets : List ℕ) (peptides : ℕ) (later : List (ℕ × Bool))
+    → firstFailing ((tableStatus letters offsets peptides, eqb (tableStatus letters offsets peptides) accepted) ∷ later)
+    ≡ firstFailing ((badOffsets, offsetsRight peptides (length letters) offsets) ∷ (badLetter, lettersRight letters) ∷ later)
+unfolding tableStatus
+table-first letters offsets peptides later = table-first-by (offsetsRight peptides (length letters) offsets) (lettersRight letters) (firstFailing later)
 
 -- a peptide's letters are its own, and no more than 255
 pub has-peptide : (letters offsets : List ℕ) (peptides p : ℕ) → tableStatus letters offsets peptides ≡ accepted → p < peptides → HasPeptide letters offsets p

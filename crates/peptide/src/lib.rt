@@ -50,14 +50,16 @@ pub fn check_letters(letters: &[u8]) -> bool
     true
 }
 
-// The status of a table with so many peptides: 7, 6 or 0.
+// The status of a table with so many peptides: 7, 6 or 0. Both checks are made, and the first that fails is answered.
 pub fn check_table(letters: &[u8], offsets: &[u32], peptides: usize) -> u8
     ensures { λ r. ⌜ r ≡ tableStatus (now (letters .entry)) (now (offsets .entry)) peptides ⌝ }
 {
-    if !check_offsets(offsets, peptides, letters.len()) {
+    let offsets_right = check_offsets(offsets, peptides, letters.len());
+    let letters_right = check_letters(letters);
+    if !offsets_right {
         return feature::BAD_OFFSETS;
     }
-    if !check_letters(letters) {
+    if !letters_right {
         return feature::BAD_LETTER;
     }
     feature::ACCEPTED
