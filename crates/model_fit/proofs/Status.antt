@@ -4,30 +4,29 @@ use mathlib.Core.Bool.{Bool, true, false, cond}
 use mathlib.Core.List.{List, [], _∷_}
 use Prim.Native.Nat.{ℕ, _<_}
 use native.Mathlib.Omega.{arith}
-use lib.Dec.{ltb}
+use lib.Dec.{eqb, ltb}
 use lib.ListN.{length, getD}
 use borrow.Author.Tests.{ltb-true}
 use Rattle.feature.specs.Checks.{every, lengthsAgree, withinRowLimits, allBelow}
-use Rattle.feature.specs.Status.{accepted, badLengths, pastLimit, tooShort, badOffsets, badLetter, badPeptide, firstFailing}
+use Rattle.feature.specs.Status.{accepted, badLengths, pastLimit, tooShort, badFile, badPeptide, firstFailing}
 use Rattle.feature.proofs.Laws.{and-true, every-at, below-at, length-at, row-limits}
-use Rattle.peptide.specs.Table.{Table, offsetsRight, lettersRight}
-use Rattle.peptide.proofs.Laws.{offsets-peptide}
+use Rattle.peptide.specs.Table.{Table, tableStatus}
+use Rattle.peptide.proofs.Laws.{table-first, offsets-peptide}
 use Rattle.embedding.specs.declared.Model.{Model}
 use Rattle.embedding.specs.declared.Model.the-variants.{Retention, Mobility}
 use Rattle.model_fit.specs.Input.{Input, columnsAgree, lengthsRight, checks, statusOf}
 use Rattle.model_fit.specs.Shared.{Listed, Numbered, Checked}
 
--- the status where the checks have these values
-pub status-is : (model : Model) (i : Input) (room : Bool) (a b c d e f : Bool)
-    → lengthsRight model i ≡ a
-    → withinRowLimits (length (i .peptides)) (length (i .table .masses)) ≡ b
-    → room ≡ c
-    → offsetsRight (length (i .table .masses)) (length (i .table .letters)) (i .table .offsets) ≡ d
-    → lettersRight (i .table .letters) ≡ e
-    → allBelow (length (i .table .masses)) (i .peptides) ≡ f
-    → firstFailing ((badLengths, a) ∷ (pastLimit, b) ∷ (tooShort, c) ∷ (badOffsets, d) ∷ (badLetter, e) ∷ (badPeptide, f) ∷ []) ≡ statusOf model i room
+-- the status where the checks and the table's status have these values; a call of a model has no files
+pub status-is : (model : Model) (i : Input) (room : Bool) (a b : Bool) (t : ℕ) (f : Bool)
+    → a ≡ lengthsRight model i
+    → b ≡ withinRowLimits (length (i .peptides)) (length (i .table .masses))
+    → t ≡ tableStatus (i .table .letters) (i .table .offsets) (length (i .table .masses))
+    → f ≡ allBelow (length (i .table .masses)) (i .peptides)
+    → firstFailing ((badLengths, a) ∷ (pastLimit, b) ∷ (tooShort, room) ∷ (t, eqb t accepted) ∷ (badFile, true) ∷ (badPeptide, f) ∷ []) ≡ statusOf model i room
 unfolding statusOf
-status-is model i room a b c d e f one two three seven six five = rw (one, two, three, seven, six, five)
+status-is model i room a b t f one two table five =
+    rw (one, two, table, five, table-first (i .table .letters) (i .table .offsets) (length (i .table .masses)) ((badPeptide, allBelow (length (i .table .masses)) (i .peptides)) ∷ []))
 
 -- where no check fails, each passed
 passed : (b : Bool) (later status : ℕ) → 0 < status → cond b later status ≡ 0 → (b ≡ true) × (later ≡ 0)

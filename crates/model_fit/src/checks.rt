@@ -1,5 +1,8 @@
 // The checks of a call, in document 01's order, for both models and for fits and predictions.
 ghost use mathlib.Core.Path.{_≡_};
+ghost use mathlib.Core.List.{[], _∷_};
+ghost use lib.Dec.{eqb};
+ghost use Rattle.feature.specs.Status.{accepted, badLengths, pastLimit, tooShort, badFile, badPeptide, firstFailing};
 ghost use Rattle.embedding.specs.Design.{orderOf};
 ghost use Rattle.model_fit.specs.Input.{inputOf, columnsAgree, fitRoom, workspaceCells, statusOf};
 use embedding::Model;
@@ -48,7 +51,40 @@ fn columns_agree(
     }
 }
 
-// The status of a call: 1, 2, 3 (not `room`), 7, 6, 5 or 0.
+// The status of the first check that fails, `table` being the peptide table's own. A call without files passes true for them.
+pub fn first_failing(
+    lengths: bool,
+    limits: bool,
+    room: bool,
+    table: u8,
+    files: bool,
+    peptides: bool,
+) -> u8
+    ensures { λ r. ⌜ r ≡ firstFailing ((badLengths, lengths) ∷ (pastLimit, limits) ∷ (tooShort, room) ∷ (table, eqb table accepted) ∷ (badFile, files) ∷ (badPeptide, peptides) ∷ []) ⌝ }
+{
+    let table_right = table == feature::ACCEPTED;
+    if !lengths {
+        return feature::BAD_LENGTHS;
+    }
+    if !limits {
+        return feature::PAST_LIMIT;
+    }
+    if !room {
+        return feature::TOO_SHORT;
+    }
+    if !table_right {
+        return table;
+    }
+    if !files {
+        return feature::BAD_FILE;
+    }
+    if !peptides {
+        return feature::BAD_PEPTIDE;
+    }
+    feature::ACCEPTED
+}
+
+// The status of a call: 1, 2, 3 (not `room`), 7, 6, 5 or 0. Each check goes over the whole input, and the first that fails is answered.
 pub fn check(
     model: Model,
     peptide: &[u32],
@@ -66,7 +102,7 @@ pub fn check(
 {
     let rows = peptide.len();
     let peptides = masses.len();
-    if !columns_agree(
+    let lengths = columns_agree(
         model,
         rows,
         label.len(),
@@ -75,23 +111,9 @@ pub fn check(
         observed.len(),
         peptides,
         logs.len(),
-    ) {
-        return feature::BAD_LENGTHS;
-    }
-    if !feature::row_limits(rows, peptides) {
-        return feature::PAST_LIMIT;
-    }
-    if !room {
-        return feature::TOO_SHORT;
-    }
-    if !peptide::check_offsets(offsets, peptides, letters.len()) {
-        return feature::BAD_OFFSETS;
-    }
-    if !peptide::check_letters(letters) {
-        return feature::BAD_LETTER;
-    }
-    if !feature::all_below(peptide, peptides) {
-        return feature::BAD_PEPTIDE;
-    }
-    feature::ACCEPTED
+    );
+    let limits = feature::row_limits(rows, peptides);
+    let table = peptide::check_table(letters, offsets, peptides);
+    let peptides_right = feature::all_below(peptide, peptides);
+    first_failing(lengths, limits, room, table, true, peptides_right)
 }

@@ -1,6 +1,6 @@
 -- What a run that is accepted has passed, and that its three parts accept what they are passed.
 use mathlib.Core.Path.{_≡_, refl, sym, ap, _∙_}
-use mathlib.Core.Bool.{Bool, true, false, _&&_}
+use mathlib.Core.Bool.{Bool, true, false, _&&_, cond}
 use mathlib.Core.List.{List, [], _∷_}
 use Prim.Native.Nat.{ℕ, zero, suc, _*_, _≤_, _<_, max}
 use native.Mathlib.Omega.{arith}
@@ -9,10 +9,11 @@ use lib.Ieee.{Float}
 use lib.ListN.{length, getD}
 use borrow.Author.Tests.{eq-eqb, le-leb, leb-true}
 use Rattle.feature.specs.Checks.{every, lengthsAgree, withinLimits, withinRowLimits, allBelow, maxRows, maxPeptides}
-use Rattle.feature.specs.Status.{accepted}
+use Rattle.feature.specs.Status.{accepted, tooShort}
 use Rattle.feature.proofs.Laws.{and-true, every-at, length-at, Limits, limits}
 use Rattle.feature.proofs.Training.{Columns}
-use Rattle.peptide.specs.Table.{offsetsRight, lettersRight}
+use Rattle.peptide.specs.Table.{offsetsRight, lettersRight, tableStatus}
+use Rattle.peptide.proofs.Laws.{status-by}
 use Rattle.retention_alignment.specs.Call.{longEnough as alignLongEnough, statusOf as alignStatus}
 use Rattle.retention_alignment.proofs.Statuses.{fails-none}
 use Rattle.embedding.specs.Design.{orderOf}
@@ -135,4 +136,5 @@ module _ (i : Input) (room : Room) (p : Passed i room) where
   pub model-accepts : (model : Model) (m : ModelInput) (room' : Bool) → m .peptides ≡ i .peptide → m .table .masses ≡ i .table .masses → m .table .letters ≡ i .table .letters → m .table .offsets ≡ i .table .offsets
       → lengthsRight model m ≡ true → room' ≡ true → statusOf model m room' ≡ accepted
   model-accepts model m room' ep em el eo lengths r =
-      sym (status-is model m room' true true true true true true lengths (rw (ep, em) limits-too) r (rw (em, el, eo) (p .offsets)) (rw el (p .letters)) (rw (em, ep) (p .peptide-numbers)))
+      let table : accepted ≡ tableStatus (m .table .letters) (m .table .offsets) (length (m .table .masses)) = status-by _ _ _ true true _ (sym (rw (em, el, eo) (p .offsets))) (sym (rw el (p .letters))) refl in
+      sym (status-is model m room' true true 0 true (sym lengths) (sym (rw (ep, em) limits-too)) table (sym (rw (em, ep) (p .peptide-numbers)))) ∙ ap (λ (b : Bool). cond b accepted tooShort) r

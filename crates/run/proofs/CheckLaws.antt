@@ -10,8 +10,9 @@ use lib.Dec.{leb, eqb}
 use borrow.Author.Tests.{le-leb, lt-leb}
 use lib.ListN.{length}
 use Rattle.feature.specs.Checks.{every, lengthsAgree, withinLimits, allBelow}
-use Rattle.peptide.specs.Table.{offsetsRight, lettersRight}
-use Rattle.feature.specs.Status.{firstFailing}
+use Rattle.feature.specs.Status.{accepted, badLengths, pastLimit, tooShort, badFile, badPeptide, firstFailing}
+use Rattle.peptide.specs.Table.{tableStatus}
+use Rattle.peptide.proofs.Laws.{table-first}
 use Rattle.run.specs.Call.{Input, peptides, columnsAgree, longEnough, statusBy}
 use Rattle.run.specs.declared.checks.Room.{Room}
 
@@ -59,15 +60,15 @@ pub positive : (n : ℕ) → (n ≡ 0 → ⊥) → 0 < n
 positive zero h = absurd (h refl)
 positive (suc n) h = omega arith
 
--- the status, where the checks have these values
-pub status-by : (i : Input) (room : Room) (a b c d e f g : Bool)
+-- the status, where the checks and the table's status have these values
+pub status-by : (i : Input) (room : Room) (a b c : Bool) (t : ℕ) (f g : Bool)
     → a ≡ columnsAgree i
     → b ≡ withinLimits (i .files) (length (i .file)) (peptides i)
     → c ≡ longEnough (i .files) (peptides i) (length (i .file)) room
-    → d ≡ offsetsRight (peptides i) (length (i .table .letters)) (i .table .offsets)
-    → e ≡ lettersRight (i .table .letters)
+    → t ≡ tableStatus (i .table .letters) (i .table .offsets) (peptides i)
     → f ≡ allBelow (i .files) (i .file)
     → g ≡ allBelow (peptides i) (i .peptide)
-    → firstFailing ((1, a) ∷ (2, b) ∷ (3, c) ∷ (7, d) ∷ (6, e) ∷ (4, f) ∷ (5, g) ∷ []) ≡ statusBy i room
+    → firstFailing ((badLengths, a) ∷ (pastLimit, b) ∷ (tooShort, c) ∷ (t, eqb t accepted) ∷ (badFile, f) ∷ (badPeptide, g) ∷ []) ≡ statusBy i room
 unfolding statusBy
-status-by i room a b c d e f g one two three seven six four five = rw (one, two, three, seven, six, four, five) refl
+status-by i room a b c t f g one two three table four five =
+    rw (one, two, three, table, four, five, table-first (i .table .letters) (i .table .offsets) (peptides i) ((badFile, allBelow (i .files) (i .file)) ∷ (badPeptide, allBelow (peptides i) (i .peptide)) ∷ []))

@@ -5,7 +5,6 @@ ghost use mathlib.Core.List.{[], _∷_};
 ghost use Prim.Native.Nat.{_*_};
 ghost use lib.Dec.{leb};
 ghost use Rattle.feature.specs.Checks.{lengthsAgree};
-ghost use Rattle.feature.specs.Status.{firstFailing};
 ghost use Rattle.model_fit.specs.Input.{tableOf};
 ghost use Rattle.run.specs.Call.{neededCells, longEnough, statusBy};
 
@@ -70,42 +69,6 @@ fn long_enough(files: usize, peptides: usize, rows: usize, room: Room) -> bool
     workspace & by_file & by_row & betas
 }
 
-// The status of the first check that fails.
-fn first_failing(
-    lengths: bool,
-    limits: bool,
-    room: bool,
-    offsets: bool,
-    letters: bool,
-    files: bool,
-    peptides: bool,
-) -> u8
-    ensures { λ r. ⌜ r ≡ firstFailing ((1, lengths) ∷ (2, limits) ∷ (3, room) ∷ (7, offsets) ∷ (6, letters) ∷ (4, files) ∷ (5, peptides) ∷ []) ⌝ }
-{
-    if !lengths {
-        return feature::BAD_LENGTHS;
-    }
-    if !limits {
-        return feature::PAST_LIMIT;
-    }
-    if !room {
-        return feature::TOO_SHORT;
-    }
-    if !offsets {
-        return feature::BAD_OFFSETS;
-    }
-    if !letters {
-        return feature::BAD_LETTER;
-    }
-    if !files {
-        return feature::BAD_FILE;
-    }
-    if !peptides {
-        return feature::BAD_PEPTIDE;
-    }
-    feature::ACCEPTED
-}
-
 // The status of a call: 1, 2, 3, 7, 6, 4, 5 or 0. Each check goes over the whole input, and the first that fails is answered.
 pub(crate) fn check(
     file: &[u32],
@@ -139,17 +102,8 @@ pub(crate) fn check(
     );
     let limits = feature::limits(files, rows, peptides);
     let long = long_enough(files, peptides, rows, room);
-    let offsets_right = peptide::check_offsets(offsets, peptides, letters.len());
-    let letters_right = peptide::check_letters(letters);
+    let table = peptide::check_table(letters, offsets, peptides);
     let files_right = feature::all_below(file, files);
     let peptides_right = feature::all_below(peptide, peptides);
-    first_failing(
-        lengths,
-        limits,
-        long,
-        offsets_right,
-        letters_right,
-        files_right,
-        peptides_right,
-    )
+    model_fit::checks::first_failing(lengths, limits, long, table, files_right, peptides_right)
 }

@@ -14,11 +14,8 @@ limits-requires c κs = search needs
 long-enough-requires : tie.Need-long-enough-requires
 long-enough-requires c κs = search needs
 
-check-offsets-requires : tie.Need-check-offsets-requires
-check-offsets-requires c κs = search needs
-
-check-letters-requires : tie.Need-check-letters-requires
-check-letters-requires c κs = search needs
+check-table-requires : tie.Need-check-table-requires
+check-table-requires c κs = search needs
 
 all-below-requires : tie.Need-all-below-requires
 all-below-requires c κs = search needs
@@ -32,12 +29,11 @@ first-failing-requires c κs = search needs
 returns : tie.Need-returns
 returns c =
     c .first-failing .ensures
-    ∙ status-by _ _ _ _ _ _ _ _ _
-    (c .before .before .before .before .before .before .before .columns-agree .ensures)
-    (c .before .before .before .before .before .before .limits .ensures)
-    (c .before .before .before .before .before .long-enough .ensures)
-    (c .before .before .before .before .check-offsets .ensures)
-    (c .before .before .before .check-letters .ensures)
+    ∙ status-by _ _ _ _ _ _ _ _
+    (c .before .before .before .before .before .before .columns-agree .ensures)
+    (c .before .before .before .before .before .limits .ensures)
+    (c .before .before .before .before .long-enough .ensures)
+    (c .before .before .before .check-table .ensures)
     (c .before .before .all-below .ensures)
     (c .before .all-below2 .ensures)
 
@@ -48,8 +44,7 @@ check-spec =
     columns-agree-requires
     limits-requires
     long-enough-requires
-    check-offsets-requires
-    check-letters-requires
+    check-table-requires
     all-below-requires
     all-below-requires-2
     first-failing-requires
