@@ -7,7 +7,7 @@ ghost use Rattle.peptide.specs.Table.{offsetsRight, lettersRight, tableS
 pub const MAX_LENGTH: usize = 255;
 
 // Whether the offsets are those of so many peptides with so many letters: check 7.
-pub fn check_offsets(offsets: &[u32], peptides: usize, letters: usize) -> bool
+fn check_offsets(offsets: &[u32], peptides: usize, letters: usize) -> bool
     ensures { λ r. ⌜ r ≡ offsetsRight peptides letters (now (offsets .entry)) ⌝ }
 {
     if offsets.len() < 1 {
@@ -36,7 +36,7 @@ pub fn check_offsets(offsets: &[u32], peptides: usize, letters: usize) -> bool
 }
 
 // Whether every letter is A to Z: check 6.
-pub fn check_letters(letters: &[u8]) -> bool
+fn check_letters(letters: &[u8]) -> bool
     ensures { λ r. ⌜ r ≡ lettersRight (now (letters .entry)) ⌝ }
 {
     let mut i = 0usize;
