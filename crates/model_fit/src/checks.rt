@@ -60,7 +60,14 @@ pub fn first_failing(
     files: bool,
     peptides: bool,
 ) -> u8
-    ensures { λ r. ⌜ r ≡ firstFailing ((badLengths, lengths) ∷ (pastLimit, limits) ∷ (tooShort, room) ∷ (table, eqb table accepted) ∷ (badFile, files) ∷ (badPeptide, peptides) ∷ []) ⌝ }
+    ensures { λ r. ⌜ r ≡ firstFailing
+        ((badLengths, lengths)
+        ∷ (pastLimit, limits)
+        ∷ (tooShort, room)
+        ∷ (table, eqb table accepted)
+        ∷ (badFile, files)
+        ∷ (badPeptide, peptides)
+        ∷ []) ⌝ }
 {
     let table_right = table == feature::ACCEPTED;
     if !lengths {
