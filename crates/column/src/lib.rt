@@ -1,5 +1,5 @@
-// A walker down a column of a matrix (Rust's Iter over Col), which holds the slice that the matrix lies in. Loops use the cursor
-// `matrix::Col` with the slice beside it.
+// A walker down a column of a matrix (Rust's Iter over Col), which holds the slice that the matrix lies in: thin functions over the cursor
+// `matrix::Col`.
 ghost use mathlib.Core.Path.{_≡_};
 ghost use Rattle.matrix.specs.Cells.{stepOf};
 use matrix::Col;

@@ -28,7 +28,7 @@ pub(crate) fn copy(dst: &mut [f64], src: &[f64])
     }
 }
 
-// `dst` becomes `src`, each NaN the one.
+// `dst` becomes `src`, with the one NaN for any NaN.
 pub(crate) fn copy_canonical(dst: &mut [f64], src: &[f64])
     requires { ⌜ length (now dst) ≡ length (now src) ⌝ }
     ensures { λ _. ⌜ now (dst .exit) ≡ now (src .entry) ⌝ }

@@ -40,7 +40,7 @@ pub fn augment(cells: &mut [f64], left: &[f64], right: &[f64], n: usize, c: usiz
     }
 }
 
-// The right side of the rows, row by row, each NaN the one. For crates gauss and regression.
+// Writes the right side of the rows, row by row, with the one NaN for any NaN. For the crates gauss and regression.
 pub fn right_side(solution: &mut [f64], cells: &[f64], n: usize, c: usize)
     requires { ⌜ (length (now solution) ≡ n * c) × (length (now cells) ≡ n * (n + c)) ⌝ }
     ensures { λ _. ⌜ now (solution .exit) ≡ rightSide n (rowsOf (n + c) n (now (cells .entry))) ⌝ }

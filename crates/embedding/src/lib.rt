@@ -28,7 +28,7 @@ pub fn order(model: Model) -> usize
 
 // Writes the design row of a peptide into the first cells of `row`; the rest is unchanged. Retention
 // reads the letters and the log, mobility the letters, the mass and the charge.
-// For the crates above, which accept peptides of at most 255 letters and hold a row in a part of its order.
+// For `model_fit`, whose peptides have at most 255 letters, and whose rows have at least the model's columns.
 pub fn embed(model: Model, letters: &[u8], log: f64, mass: f32, charge: u8, row: &mut [f64])
     requires { ⌜ length (now letters) < 2 ^ 32 ⌝ }
     requires { ⌜ orderOf model ≤ length (now row) ⌝ }

@@ -32,9 +32,8 @@ pub enum FirstRidge {
     None,
 }
 
-// Adds `factor` times `src` to `dst`, cell by cell. For this crate and the models: `src` is at least as
-// long as `dst`.
-pub fn add_scaled(dst: &mut [f64], src: &[f64], factor: f64)
+// Adds `factor` times `src`, which is at least as long as `dst`, to `dst`, cell by cell.
+fn add_scaled(dst: &mut [f64], src: &[f64], factor: f64)
     requires { ⌜ length (now dst) ≤ length (now src) ⌝ }
     ensures { λ _. ⌜ now (dst .exit) ≡ zipped (plusScaled factor) (now (dst .entry)) (now (src .entry)) ⌝ }
 {
@@ -62,7 +61,7 @@ pub fn add_row(acc: &mut [f64], ext: &[f64])
     }
 }
 
-// Adds `a` times `x` and then `b` times `y` to `dst`, cell by cell. For this crate: `x` and `y` are at least as long as `dst`.
+// Adds `a` times `x` and then `b` times `y`, which are at least as long as `dst`, to `dst`, cell by cell.
 fn add_scaled_two(dst: &mut [f64], x: &[f64], a: f64, y: &[f64], b: f64)
     requires { ⌜ length (now dst) ≤ length (now x) ⌝ }
     requires { ⌜ length (now dst) ≤ length (now y) ⌝ }

@@ -1,5 +1,6 @@
-// The library for hosts: every entry point under a C name. A slice is passed as a pointer and a length; an answer is a status of document 01's
-// table, alone or in a struct beside what the call gives. Each function takes whatever is handed in, and does what its entry point does.
+// The library for hosts: the entry points under C names, but for the align program's `align_text`. A slice is passed as a pointer and a length;
+// an answer is a status of document 01's table, alone or in a struct beside what the call gives. Each function takes whatever is handed in, and
+// does what its entry point does.
 ghost use mathlib.Core.List.{[]};
 ghost use mathlib.Core.Path.{_≡_};
 ghost use Rattle.embedding.specs.declared.Model.{Model};
