@@ -1,0 +1,167 @@
+// Calls of the alignment. Each output has four cells.
+ghost use Prim.Native.Nat.{_≤_};
+use crate::held;
+use crate::held::CELL;
+use crate::held::VALUE;
+use retention_alignment::AlignAnswer;
+
+fn number(answer: AlignAnswer) -> u64 {
+    match answer {
+        AlignAnswer::Accepted => 0,
+        AlignAnswer::Refused(status) => status as u64,
+    }
+}
+
+fn call(
+    file: &[u32],
+    peptide: &[u32],
+    label: &[i32],
+    q: &[f32],
+    rt: &[f32],
+    files: usize,
+    peptides: usize,
+    workspace: &mut [f64],
+) {
+    let mut max_rt = [VALUE; 4];
+    let mut slope = [VALUE; 4];
+    let mut intercept = [VALUE; 4];
+    let mut aligned = [VALUE; 4];
+    let answer = retention_alignment::global_alignment(
+        file,
+        peptide,
+        label,
+        q,
+        rt,
+        files,
+        peptides,
+        workspace,
+        &mut max_rt,
+        &mut slope,
+        &mut intercept,
+        &mut aligned,
+    );
+    vectors::write_token(number(answer));
+    held::write_workspace(workspace);
+    let lines = held::changed32(
+        held::changed32(held::changed32(0, &max_rt), &slope),
+        &intercept,
+    );
+    vectors::write_token(held::changed32(lines, &aligned));
+}
+
+// With a workspace of so many cells.
+fn align(
+    file: &[u32],
+    peptide: &[u32],
+    label: &[i32],
+    q: &[f32],
+    rt: &[f32],
+    files: usize,
+    peptides: usize,
+    cells: usize,
+)
+    requires { ⌜ cells ≤ 8 ⌝ }
+{
+    let mut workspace = [CELL; 8];
+    call(
+        file,
+        peptide,
+        label,
+        q,
+        rt,
+        files,
+        peptides,
+        &mut workspace[..cells],
+    );
+}
+
+// A row with the time 10.0.
+fn one(file: u32, peptide: u32, label: i32, files: usize, peptides: usize, cells: usize)
+    requires { ⌜ cells ≤ 8 ⌝ }
+{
+    let f = [file];
+    let p = [peptide];
+    let l = [label];
+    let q = [0.0f32];
+    let rt = [10.0f32];
+    align(&f, &p, &l, &q, &rt, files, peptides, cells);
+}
+
+// Two rows.
+fn two(file: &[u32], peptide: &[u32], rt: &[f32], files: usize, peptides: usize) {
+    let label = [1i32, 1];
+    let q = [0.0f32; 2];
+    align(file, peptide, &label, &q, rt, files, peptides, 8);
+}
+
+// So many rows of one file.
+fn rows(n: usize, peptides: usize)
+    requires { ⌜ n ≤ 5 ⌝ }
+{
+    let numbers = [0u32; 5];
+    let label = [1i32; 5];
+    let times = [0.0f32; 5];
+    align(
+        &numbers[..n],
+        &numbers[..n],
+        &label[..n],
+        &times[..n],
+        &times[..n],
+        1,
+        peptides,
+        8,
+    );
+}
+
+// 0: one row, one file; no training row; no row at all; just the needed workspace.
+fn accepted() {
+    one(0, 0, 1, 1, 1, 8);
+    one(0, 0, -1, 1, 1, 8);
+    rows(0, 0);
+    one(0, 0, 1, 2, 3, 6);
+}
+
+// 1: two file numbers, one time; with no file, which is 2 too.
+fn lengths() {
+    let zeros = [0u32; 2];
+    let rt = [10.0f32];
+    two(&zeros, &zeros, &rt, 1, 1);
+    two(&zeros, &zeros, &rt, 0, 1);
+}
+
+// 2: no file; and, with the room too short as well, 1,025 files, 1,048,577 peptides, and 1,048,576 peptides of 17 files.
+fn limits() {
+    one(0, 0, 1, 0, 1, 8);
+    one(0, 0, 1, 1025, 1, 8);
+    one(0, 0, 1, 1, 1048577, 8);
+    one(0, 0, 1, 17, 1048576, 8);
+}
+
+// 3: a workspace of 5 cells for 3 peptides and 2 files; with file 2 of 2, which is 4 too; outputs of 4 cells for 5 files and for 5 rows; at the limits.
+fn room() {
+    one(0, 0, 1, 2, 3, 5);
+    one(2, 0, 1, 2, 3, 5);
+    one(0, 0, 1, 5, 1, 8);
+    rows(5, 1);
+    one(0, 0, 1, 1024, 1, 8);
+    one(0, 0, 1, 16, 1048576, 8);
+}
+
+// 4: file 2 of 2; with peptide 1 of 1, which is 5 too, in the same row and in an earlier one. 5: peptide 1 of 1.
+fn numbers() {
+    one(2, 0, 1, 2, 1, 8);
+    one(2, 1, 1, 2, 1, 8);
+    let file = [0u32, 1];
+    let peptide = [1u32, 0];
+    let rt = [10.0f32; 2];
+    two(&file, &peptide, &rt, 1, 1);
+    one(0, 1, 1, 1, 1, 8);
+}
+
+pub(crate) fn calls() {
+    accepted();
+    lengths();
+    limits();
+    room();
+    numbers();
+}

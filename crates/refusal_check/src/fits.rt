@@ -1,0 +1,349 @@
+// Calls of the fits and predictions of both models. The rows have the q 0.0, charge 1, and 0.5 as aligned time and as mobility.
+ghost use Prim.Native.Nat.{_≤_};
+use crate::held;
+use crate::held::CELL;
+use crate::held::VALUE;
+use embedding::Model;
+use models::FitAnswer;
+use models::mobility_model;
+use models::retention_model;
+
+fn number(answer: FitAnswer) -> u64 {
+    match answer {
+        FitAnswer::Fitted(outcome) => held::number(outcome),
+        FitAnswer::Refused(status) => status as u64,
+    }
+}
+
+fn retention(
+    predicts: bool,
+    peptide: &[u32],
+    label: &[i32],
+    letters: &[u8],
+    offsets: &[u32],
+    masses: &[f32],
+    logs: &[f64],
+    workspace: &mut [f64],
+    beta: &mut [f64],
+    predicted: &mut [f32],
+    error: &mut [f32],
+) -> FitAnswer {
+    let q = [0.0f32];
+    let aligned = [0.5f32];
+    if predicts {
+        return retention_model::predict(
+            peptide,
+            label,
+            &q,
+            &aligned,
+            letters,
+            offsets,
+            masses,
+            logs,
+            workspace,
+            beta,
+            predicted,
+            error,
+        );
+    }
+    retention_model::fit(
+        peptide,
+        label,
+        &q,
+        &aligned,
+        letters,
+        offsets,
+        masses,
+        logs,
+        workspace,
+        beta,
+    )
+}
+
+fn mobility(
+    predicts: bool,
+    peptide: &[u32],
+    label: &[i32],
+    letters: &[u8],
+    offsets: &[u32],
+    masses: &[f32],
+    workspace: &mut [f64],
+    beta: &mut [f64],
+    predicted: &mut [f32],
+    error: &mut [f32],
+) -> FitAnswer {
+    let q = [0.0f32];
+    let charge = [1u8];
+    let observed = [0.5f32];
+    if predicts {
+        return mobility_model::predict(
+            peptide,
+            label,
+            &q,
+            &charge,
+            &observed,
+            letters,
+            offsets,
+            masses,
+            workspace,
+            beta,
+            predicted,
+            error,
+        );
+    }
+    mobility_model::fit(
+        peptide,
+        label,
+        &q,
+        &charge,
+        &observed,
+        letters,
+        offsets,
+        masses,
+        workspace,
+        beta,
+    )
+}
+
+fn call(
+    model: Model,
+    predicts: bool,
+    peptide: &[u32],
+    label: &[i32],
+    letters: &[u8],
+    offsets: &[u32],
+    masses: &[f32],
+    logs: &[f64],
+    workspace: &mut [f64],
+    beta: &mut [f64],
+    predicted: &mut [f32],
+    error: &mut [f32],
+) -> FitAnswer {
+    match model {
+        Model::Retention => retention(
+            predicts,
+            peptide,
+            label,
+            letters,
+            offsets,
+            masses,
+            logs,
+            workspace,
+            beta,
+            predicted,
+            error,
+        ),
+        Model::Mobility => mobility(
+            predicts,
+            peptide,
+            label,
+            letters,
+            offsets,
+            masses,
+            workspace,
+            beta,
+            predicted,
+            error,
+        ),
+    }
+}
+
+// Writes what a call answers and leaves.
+fn report(
+    model: Model,
+    predicts: bool,
+    peptide: &[u32],
+    label: &[i32],
+    letters: &[u8],
+    offsets: &[u32],
+    masses: &[f32],
+    logs: &[f64],
+    workspace: &mut [f64],
+    beta: &mut [f64],
+    predicted: &mut [f32],
+    error: &mut [f32],
+) {
+    let answer = call(
+        model,
+        predicts,
+        peptide,
+        label,
+        letters,
+        offsets,
+        masses,
+        logs,
+        workspace,
+        beta,
+        predicted,
+        error,
+    );
+    vectors::write_token(number(answer));
+    held::write_workspace(workspace);
+    let betas = held::changed64(0, beta);
+    vectors::write_token(held::changed32(held::changed32(betas, predicted), error));
+}
+
+// With so many cells of workspace and coefficients, predictions and errors.
+fn within(
+    model: Model,
+    predicts: bool,
+    end: u32,
+    cells: usize,
+    betas: usize,
+    predictions: usize,
+    errors: usize,
+)
+    requires { ⌜ (cells ≤ 20300) × (betas ≤ 101) × (predictions ≤ 2) × (errors ≤ 2) ⌝ }
+{
+    let zero = [0u32];
+    let label = [1i32];
+    let offsets = [0u32, end];
+    let masses = [0.0f32];
+    let logs = [0.0f64];
+    let mut workspace = [CELL; 20300];
+    let mut beta = [CELL; 101];
+    let mut predicted = [VALUE; 2];
+    let mut error = [VALUE; 2];
+    report(
+        model,
+        predicts,
+        &zero,
+        &label,
+        b"A",
+        &offsets,
+        &masses,
+        &logs,
+        &mut workspace[..cells],
+        &mut beta[..betas],
+        &mut predicted[..predictions],
+        &mut error[..errors],
+    );
+}
+
+// With more room than is needed.
+fn ample(
+    model: Model,
+    predicts: bool,
+    peptide: &[u32],
+    label: i32,
+    letters: &[u8],
+    offsets: &[u32],
+    masses: &[f32],
+    logs: &[f64],
+) {
+    let labels = [label];
+    let mut workspace = [CELL; 20300];
+    let mut beta = [CELL; 101];
+    let mut predicted = [VALUE; 2];
+    let mut error = [VALUE; 2];
+    report(
+        model,
+        predicts,
+        peptide,
+        &labels,
+        letters,
+        offsets,
+        masses,
+        logs,
+        &mut workspace,
+        &mut beta,
+        &mut predicted,
+        &mut error,
+    );
+}
+
+// A row, and a table of one peptide that ends at `end`.
+fn one(
+    model: Model,
+    predicts: bool,
+    peptide: u32,
+    label: i32,
+    letters: &[u8],
+    end: u32,
+    mass: f32,
+    log: f64,
+) {
+    let peptides = [peptide];
+    let offsets = [0u32, end];
+    let masses = [mass];
+    let logs = [log];
+    ample(
+        model,
+        predicts,
+        &peptides,
+        label,
+        letters,
+        &offsets,
+        &masses,
+        &logs,
+    );
+}
+
+// A row of peptide 0, and a table of two with the offsets 0, b and c and these logs.
+fn two(model: Model, predicts: bool, letters: &[u8], b: u32, c: u32, logs: &[f64]) {
+    let zero = [0u32];
+    let offsets = [0u32, b, c];
+    let masses = [0.0f32; 2];
+    ample(model, predicts, &zero, 1, letters, &offsets, &masses, logs);
+}
+
+// 0: the peptide A with mass 0.0, whose log is 0.0. 8: no training row. 9: a NaN as log for retention, as mass for mobility; the other model doesn't
+// read it. A NaN in a row that does not train is 8.
+fn fitted(model: Model, predicts: bool) {
+    let nan = 0.0f32 / 0.0;
+    one(model, predicts, 0, 1, b"A", 1, 0.0, 0.0);
+    one(model, predicts, 0, -1, b"A", 1, 0.0, 0.0);
+    one(model, predicts, 0, 1, b"A", 1, 0.0, 0.0 / 0.0);
+    one(model, predicts, 0, 1, b"A", 1, nan, 0.0);
+    one(model, predicts, 0, -1, b"A", 1, nan, 0.0 / 0.0);
+}
+
+// 1: two peptide numbers, one label; with a lower-case letter, which is 6 too; for retention one log of two masses, while mobility has no logs.
+fn lengths(model: Model, predicts: bool) {
+    let zeros = [0u32; 2];
+    let offsets = [0u32, 1];
+    let masses = [0.0f32];
+    let logs = [0.0f64];
+    ample(model, predicts, &zeros, 1, b"A", &offsets, &masses, &logs);
+    ample(model, predicts, &zeros, 1, b"a", &offsets, &masses, &logs);
+    two(model, predicts, b"A", 1, 1, &logs);
+}
+
+// 3: one cell less than retention's workspace and than mobility's, which is enough for retention; so for the coefficients; no room for the prediction or
+// for the error, which a fit does not write; and a short workspace with wrong offsets, which is 7 too.
+fn room(model: Model, predicts: bool) {
+    within(model, predicts, 1, 9659, 101, 2, 2);
+    within(model, predicts, 1, 20199, 101, 2, 2);
+    within(model, predicts, 1, 20300, 68, 2, 2);
+    within(model, predicts, 1, 20300, 99, 2, 2);
+    within(model, predicts, 1, 20300, 101, 0, 2);
+    within(model, predicts, 1, 20300, 101, 2, 0);
+    within(model, predicts, 2, 9659, 101, 2, 2);
+}
+
+// 7: the offsets 0, 2, 1; with a lower-case letter, which is 6 too; a peptide of 256 letters.
+fn offsets(model: Model, predicts: bool) {
+    let logs = [0.0f64; 2];
+    two(model, predicts, b"A", 2, 1, &logs);
+    two(model, predicts, b"a", 2, 1, &logs);
+    let long = [65u8; 256];
+    one(model, predicts, 0, 1, &long, 256, 0.0, 0.0);
+}
+
+// 6: a lower-case letter; in a peptide of no row; with peptide 1 of 1, which is 5 too. 5: peptide 1 of 1; in a row that does not train, which is 8 too.
+fn letters(model: Model, predicts: bool) {
+    let logs = [0.0f64; 2];
+    one(model, predicts, 0, 1, b"a", 1, 0.0, 0.0);
+    two(model, predicts, b"Aa", 1, 2, &logs);
+    one(model, predicts, 1, 1, b"a", 1, 0.0, 0.0);
+    one(model, predicts, 1, 1, b"A", 1, 0.0, 0.0);
+    one(model, predicts, 1, -1, b"A", 1, 0.0, 0.0);
+}
+
+pub(crate) fn calls(model: Model, predicts: bool) {
+    fitted(model, predicts);
+    lengths(model, predicts);
+    room(model, predicts);
+    offsets(model, predicts);
+    letters(model, predicts);
+}

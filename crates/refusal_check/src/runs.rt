@@ -1,0 +1,244 @@
+// Calls of the run. The row has the q 0.0, the time 10.0, charge 1 and the mobility 0.5. An output by file or by row has four cells, and the
+// coefficients have 100 and 101.
+ghost use Prim.Native.Nat.{_≤_};
+use crate::held;
+use crate::held::CELL;
+use crate::held::VALUE;
+use run::RunAnswer;
+
+fn write_numbers(answer: RunAnswer) {
+    match answer {
+        RunAnswer::Refused(status) => vectors::write_token(status as u64),
+        RunAnswer::Ran {
+            retention,
+            mobility,
+        } => {
+            vectors::write_token(0);
+            vectors::write_token(held::number(retention));
+            vectors::write_token(held::number(mobility));
+        }
+    }
+}
+
+// How many cells of a model's outputs changed, and n.
+fn changed(n: u64, beta: &[f64], predicted: &[f32], error: &[f32]) -> u64 {
+    held::changed32(held::changed32(held::changed64(n, beta), predicted), error)
+}
+
+fn call(
+    file: &[u32],
+    peptide: &[u32],
+    label: &[i32],
+    files: usize,
+    letters: &[u8],
+    offsets: &[u32],
+    masses: &[f32],
+    logs: &[f64],
+    workspace: &mut [f64],
+) {
+    let q = [0.0f32];
+    let rt = [10.0f32];
+    let charge = [1u8];
+    let mobility = [0.5f32];
+    let mut max_rt = [VALUE; 4];
+    let mut slope = [VALUE; 4];
+    let mut intercept = [VALUE; 4];
+    let mut aligned = [VALUE; 4];
+    let mut retention_beta = [CELL; 100];
+    let mut retention_predicted = [VALUE; 4];
+    let mut retention_error = [VALUE; 4];
+    let mut mobility_beta = [CELL; 101];
+    let mut mobility_predicted = [VALUE; 4];
+    let mut mobility_error = [VALUE; 4];
+    let answer = run::run(
+        file,
+        peptide,
+        label,
+        &q,
+        &rt,
+        &charge,
+        &mobility,
+        files,
+        letters,
+        offsets,
+        masses,
+        logs,
+        workspace,
+        &mut max_rt,
+        &mut slope,
+        &mut intercept,
+        &mut aligned,
+        &mut retention_beta,
+        &mut retention_predicted,
+        &mut retention_error,
+        &mut mobility_beta,
+        &mut mobility_predicted,
+        &mut mobility_error,
+    );
+    write_numbers(answer);
+    held::write_workspace(workspace);
+    let lines = held::changed32(
+        held::changed32(held::changed32(0, &max_rt), &slope),
+        &intercept,
+    );
+    let times = held::changed32(lines, &aligned);
+    let retention = changed(
+        times,
+        &retention_beta,
+        &retention_predicted,
+        &retention_error,
+    );
+    vectors::write_token(changed(
+        retention,
+        &mobility_beta,
+        &mobility_predicted,
+        &mobility_error,
+    ));
+}
+
+// With a workspace of so many cells.
+fn run(
+    file: &[u32],
+    peptide: u32,
+    label: i32,
+    files: usize,
+    letters: &[u8],
+    offsets: &[u32],
+    masses: &[f32],
+    logs: &[f64],
+    cells: usize,
+)
+    requires { ⌜ cells ≤ 20300 ⌝ }
+{
+    let peptides = [peptide];
+    let labels = [label];
+    let mut workspace = [CELL; 20300];
+    call(
+        file,
+        &peptides,
+        &labels,
+        files,
+        letters,
+        offsets,
+        masses,
+        logs,
+        &mut workspace[..cells],
+    );
+}
+
+// A table of one peptide that ends at `end`.
+fn one(file: u32, peptide: u32, files: usize, letters: &[u8], end: u32, cells: usize)
+    requires { ⌜ cells ≤ 20300 ⌝ }
+{
+    let number = [file];
+    let offsets = [0u32, end];
+    let masses = [0.0f32];
+    let logs = [0.0f64];
+    run(
+        &number,
+        peptide,
+        1,
+        files,
+        letters,
+        &offsets,
+        &masses,
+        &logs,
+        cells,
+    );
+}
+
+// The peptide A, in file 0 of 1.
+fn fitted(label: i32, mass: f32, log: f64, cells: usize)
+    requires { ⌜ cells ≤ 20300 ⌝ }
+{
+    let zero = [0u32];
+    let offsets = [0u32, 1];
+    let masses = [mass];
+    let logs = [log];
+    run(&zero, 0, label, 1, b"A", &offsets, &masses, &logs, cells);
+}
+
+// 0: both fits solved, with just the needed workspace and with more; no training row, so 8 for both; 9 for retention, for mobility and for both.
+fn accepted() {
+    let nan = 0.0f32 / 0.0;
+    fitted(1, 0.0, 0.0, 20200);
+    fitted(1, 0.0, 0.0, 20300);
+    fitted(-1, 0.0, 0.0, 20300);
+    fitted(1, 0.0, 0.0 / 0.0, 20300);
+    fitted(1, nan, 0.0, 20300);
+    fitted(1, nan, 0.0 / 0.0, 20300);
+}
+
+// 1: two file numbers, one time; with no file, which is 2 too; one log of two masses.
+fn lengths() {
+    let zeros = [0u32; 2];
+    let offsets = [0u32, 1, 1];
+    let masses = [0.0f32; 2];
+    let logs = [0.0f64];
+    run(
+        &zeros,
+        0,
+        1,
+        1,
+        b"A",
+        &offsets[..2],
+        &masses[..1],
+        &logs,
+        20300,
+    );
+    run(
+        &zeros,
+        0,
+        1,
+        0,
+        b"A",
+        &offsets[..2],
+        &masses[..1],
+        &logs,
+        20300,
+    );
+    run(&zeros[..1], 0, 1, 1, b"A", &offsets, &masses, &logs, 20300);
+}
+
+// 2: no file; 1,025 files, for which the room is too short as well. 3: a workspace of 20,199 cells; with wrong offsets, which is 7 too, and with file 2 of
+// 2, which is 4 too; outputs of 4 cells for 5 files; and for the most files.
+fn limits() {
+    one(0, 0, 0, b"A", 1, 20300);
+    one(0, 0, 1025, b"A", 1, 20300);
+    one(0, 0, 1, b"A", 1, 20199);
+    one(0, 0, 1, b"A", 2, 20199);
+    one(2, 0, 2, b"A", 1, 20199);
+    one(0, 0, 5, b"A", 1, 20300);
+    one(0, 0, 1024, b"A", 1, 20300);
+}
+
+// 7: the offsets 0, 2, 1; with a lower-case letter, which is 6 too; a peptide of 256 letters.
+fn offsets() {
+    let zero = [0u32];
+    let falling = [0u32, 2, 1];
+    let masses = [0.0f32; 2];
+    let logs = [0.0f64; 2];
+    run(&zero, 0, 1, 1, b"A", &falling, &masses, &logs, 20300);
+    run(&zero, 0, 1, 1, b"a", &falling, &masses, &logs, 20300);
+    let long = [65u8; 256];
+    one(0, 0, 1, &long, 256, 20300);
+}
+
+// 6: a lower-case letter; with file 2 of 2, which is 4 too, and with peptide 1 of 1, which is 5 too. 4: file 2 of 2; with peptide 1 of 1. 5: peptide 1 of
+// 1.
+fn numbers() {
+    one(0, 0, 1, b"a", 1, 20300);
+    one(2, 0, 2, b"a", 1, 20300);
+    one(0, 1, 1, b"a", 1, 20300);
+    one(2, 0, 2, b"A", 1, 20300);
+    one(2, 1, 2, b"A", 1, 20300);
+    one(0, 1, 1, b"A", 1, 20300);
+}
+
+pub(crate) fn calls() {
+    accepted();
+    lengths();
+    limits();
+    offsets();
+    numbers();
+}

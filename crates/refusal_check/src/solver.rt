@@ -1,0 +1,95 @@
+// Calls of the solver.
+ghost use Prim.Native.Nat.{_≤_};
+use crate::held;
+use crate::held::CELL;
+use gauss::SolveAnswer;
+
+fn number(answer: SolveAnswer) -> u64 {
+    match answer {
+        SolveAnswer::Solved(_) => 0,
+        SolveAnswer::Unsolved => 9,
+        SolveAnswer::Refused(status) => status as u64,
+    }
+}
+
+fn call(
+    left: &[f64],
+    right: &[f64],
+    n: usize,
+    c: usize,
+    workspace: &mut [f64],
+    solution: &mut [f64],
+) {
+    let answer = gauss::solve(left, right, n, c, workspace, solution);
+    vectors::write_token(number(answer));
+    held::write_workspace(workspace);
+    vectors::write_token(held::changed64(0, solution));
+}
+
+// With a workspace and a solution of so many cells.
+fn solve(left: &[f64], right: &[f64], n: usize, c: usize, cells: usize, outputs: usize)
+    requires { ⌜ (cells ≤ 16) × (outputs ≤ 16) ⌝ }
+{
+    let mut workspace = [CELL; 16];
+    let mut solution = [CELL; 16];
+    call(
+        left,
+        right,
+        n,
+        c,
+        &mut workspace[..cells],
+        &mut solution[..outputs],
+    );
+}
+
+// A system of order 1.
+fn one(left: f64, right: f64, cells: usize, outputs: usize)
+    requires { ⌜ (cells ≤ 16) × (outputs ≤ 16) ⌝ }
+{
+    let lefts = [left];
+    let rights = [right];
+    solve(&lefts, &rights, 1, 1, cells, outputs);
+}
+
+// 0 with just the needed room, and with more. Then 3: a workspace or a solution one cell shorter.
+fn room() {
+    one(-1E-8, 5.0, 2, 1);
+    one(-1E-8, 5.0, 16, 16);
+    one(-1E-8, 5.0, 1, 1);
+    one(-1E-8, 5.0, 2, 0);
+}
+
+// 1: a left side of two cells for order 1; one right cell for two columns; a left cell for order 0, which is 2 too.
+fn lengths() {
+    let ones = [1.0; 2];
+    solve(&ones, &ones[..1], 1, 1, 16, 16);
+    solve(&ones[..1], &ones[..1], 1, 2, 16, 16);
+    solve(&ones[..1], &ones[..0], 0, 1, 16, 16);
+}
+
+// 2: order 0; no right column; 9 right columns; order 101, for which the room is too short as well.
+fn limits() {
+    let ones = [1.0; 9];
+    solve(&ones[..0], &ones[..0], 0, 1, 16, 16);
+    solve(&ones[..1], &ones[..0], 1, 0, 16, 16);
+    solve(&ones[..1], &ones, 1, 9, 16, 16);
+    let large = [1.0; 10201];
+    solve(&large, &large[..101], 101, 1, 16, 16);
+}
+
+// 9: a NaN; the diagonal (-1, 1). A NaN in too short a workspace is 3.
+fn unsolved() {
+    let nan = 0.0 / 0.0;
+    one(nan, 1.0, 16, 16);
+    let diagonal = [-1.0, 0.0, 0.0, 1.0];
+    let ones = [1.0; 2];
+    solve(&diagonal, &ones, 2, 1, 16, 16);
+    one(nan, 1.0, 1, 1);
+}
+
+pub(crate) fn calls() {
+    room();
+    lengths();
+    limits();
+    unsolved();
+}
