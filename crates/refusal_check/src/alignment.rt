@@ -12,6 +12,7 @@ fn number(answer: AlignAnswer) -> u64 {
     }
 }
 
+// Writes what a call answers and leaves.
 fn call(
     file: &[u32],
     peptide: &[u32],
@@ -94,31 +95,31 @@ fn two(file: &[u32], peptide: &[u32], rt: &[f32], files: usize, peptides: usize)
     align(file, peptide, &label, &q, rt, files, peptides, 8);
 }
 
-// So many rows of one file.
-fn rows(n: usize, peptides: usize)
-    requires { ⌜ n ≤ 5 ⌝ }
-{
-    let numbers = [0u32; 5];
-    let label = [1i32; 5];
-    let times = [0.0f32; 5];
-    align(
-        &numbers[..n],
-        &numbers[..n],
-        &label[..n],
-        &times[..n],
-        &times[..n],
-        1,
-        peptides,
-        8,
-    );
-}
-
-// 0: one row, one file; no training row; no row at all; just the needed workspace.
+// 0: one row, one file; no training row; just the needed workspace.
 fn accepted() {
     one(0, 0, 1, 1, 1, 8);
     one(0, 0, -1, 1, 1, 8);
-    rows(0, 0);
     one(0, 0, 1, 2, 3, 6);
+}
+
+// 0: no row, no peptide. 3: five rows, for which the output by row is too short.
+fn rows() {
+    let file = [0u32; 5];
+    let peptide = [0u32; 5];
+    let label = [1i32; 5];
+    let q = [0.0f32; 5];
+    let rt = [10.0f32; 5];
+    align(
+        &file[..0],
+        &peptide[..0],
+        &label[..0],
+        &q[..0],
+        &rt[..0],
+        1,
+        0,
+        8,
+    );
+    align(&file, &peptide, &label, &q, &rt, 1, 1, 8);
 }
 
 // 1: two file numbers, one time; with no file, which is 2 too.
@@ -129,7 +130,7 @@ fn lengths() {
     two(&zeros, &zeros, &rt, 0, 1);
 }
 
-// 2: no file; and, with the room too short as well, 1,025 files, 1,048,577 peptides, and 1,048,576 peptides of 17 files.
+// 2: no file; and, with the room too short as well, 1,025 files, 1,048,577 peptides, and 1,048,576 peptides in 17 files.
 fn limits() {
     one(0, 0, 1, 0, 1, 8);
     one(0, 0, 1, 1025, 1, 8);
@@ -137,12 +138,12 @@ fn limits() {
     one(0, 0, 1, 17, 1048576, 8);
 }
 
-// 3: a workspace of 5 cells for 3 peptides and 2 files; with file 2 of 2, which is 4 too; outputs of 4 cells for 5 files and for 5 rows; at the limits.
+// 3: a workspace of 5 cells for 3 peptides and 2 files; with file 2 of 2, which is 4 too; outputs too short for 5 files;
+// 1,024 files, and 1,048,576 peptides in 16 files, which are no 2.
 fn room() {
     one(0, 0, 1, 2, 3, 5);
     one(2, 0, 1, 2, 3, 5);
     one(0, 0, 1, 5, 1, 8);
-    rows(5, 1);
     one(0, 0, 1, 1024, 1, 8);
     one(0, 0, 1, 16, 1048576, 8);
 }
@@ -160,6 +161,7 @@ fn numbers() {
 
 pub(crate) fn calls() {
     accepted();
+    rows();
     lengths();
     limits();
     room();

@@ -1,4 +1,4 @@
-// Calls of the fits and predictions of both models. The rows have the q 0.0, charge 1, and 0.5 as aligned time and as mobility.
+// Calls of `fit` and `predict` of both models. A row has the q 0.0, charge 1, and 0.5 as its aligned time and its mobility.
 ghost use Prim.Native.Nat.{_≤_};
 use crate::held;
 use crate::held::CELL;
@@ -15,6 +15,7 @@ fn number(answer: FitAnswer) -> u64 {
     }
 }
 
+// A call of the retention model's `predict` or `fit`.
 fn retention(
     predicts: bool,
     peptide: &[u32],
@@ -60,6 +61,7 @@ fn retention(
     )
 }
 
+// The same for mobility.
 fn mobility(
     predicts: bool,
     peptide: &[u32],
@@ -105,6 +107,7 @@ fn mobility(
     )
 }
 
+// The same for either model.
 fn call(
     model: Model,
     predicts: bool,
@@ -183,7 +186,7 @@ fn report(
     vectors::write_token(held::changed32(held::changed32(betas, predicted), error));
 }
 
-// With so many cells of workspace and coefficients, predictions and errors.
+// A row of the peptide A, with slices of so many cells.
 fn within(
     model: Model,
     predicts: bool,
@@ -287,8 +290,8 @@ fn two(model: Model, predicts: bool, letters: &[u8], b: u32, c: u32, logs: &[f64
     ample(model, predicts, &zero, 1, letters, &offsets, &masses, logs);
 }
 
-// 0: the peptide A with mass 0.0, whose log is 0.0. 8: no training row. 9: a NaN as log for retention, as mass for mobility; the other model doesn't
-// read it. A NaN in a row that does not train is 8.
+// 0: the peptide A with mass 0.0, whose log is 0.0. 8: no training row. 9: a NaN, as log for retention and as mass for
+// mobility; the other model does not read it. 8: both NaN in a row that does not train.
 fn fitted(model: Model, predicts: bool) {
     let nan = 0.0f32 / 0.0;
     one(model, predicts, 0, 1, b"A", 1, 0.0, 0.0);
@@ -298,7 +301,8 @@ fn fitted(model: Model, predicts: bool) {
     one(model, predicts, 0, -1, b"A", 1, nan, 0.0 / 0.0);
 }
 
-// 1: two peptide numbers, one label; with a lower-case letter, which is 6 too; for retention one log of two masses, while mobility has no logs.
+// 1: two peptide numbers, one label; with a lower-case letter, which is 6 too; one log for two masses, which is 0 for
+// mobility.
 fn lengths(model: Model, predicts: bool) {
     let zeros = [0u32; 2];
     let offsets = [0u32, 1];
@@ -309,8 +313,9 @@ fn lengths(model: Model, predicts: bool) {
     two(model, predicts, b"A", 1, 1, &logs);
 }
 
-// 3: one cell less than retention's workspace and than mobility's, which is enough for retention; so for the coefficients; no room for the prediction or
-// for the error, which a fit does not write; and a short workspace with wrong offsets, which is 7 too.
+// 3: a cell less of workspace than retention needs, and than mobility needs, which is 0 for retention; the same for the
+// coefficients; no room for the prediction, and for the error, which is 0 for `fit`; a workspace too short with offsets
+// past the letters, which is 7 too.
 fn room(model: Model, predicts: bool) {
     within(model, predicts, 1, 9659, 101, 2, 2);
     within(model, predicts, 1, 20199, 101, 2, 2);
@@ -330,7 +335,8 @@ fn offsets(model: Model, predicts: bool) {
     one(model, predicts, 0, 1, &long, 256, 0.0, 0.0);
 }
 
-// 6: a lower-case letter; in a peptide of no row; with peptide 1 of 1, which is 5 too. 5: peptide 1 of 1; in a row that does not train, which is 8 too.
+// 6: a lower-case letter; in a peptide without a row; with peptide 1 of 1, which is 5 too. 5: peptide 1 of 1; in a row
+// that does not train, which is 8 too.
 fn letters(model: Model, predicts: bool) {
     let logs = [0.0f64; 2];
     one(model, predicts, 0, 1, b"a", 1, 0.0, 0.0);

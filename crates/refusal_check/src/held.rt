@@ -17,7 +17,7 @@ fn front_zeros(cells: &[f64]) -> usize {
     i
 }
 
-// n, and one more for each cell that changed. The sum wraps, so that it needs no bound.
+// n, and one more for each cell that changed. The sum may wrap, so it needs no bound.
 pub(crate) fn changed64(n: u64, cells: &[f64]) -> u64 {
     let mut count = n;
     for i in 0..cells.len() {

@@ -1,5 +1,5 @@
-// Calls of the run. The row has the q 0.0, the time 10.0, charge 1 and the mobility 0.5. An output by file or by row has four cells, and the
-// coefficients have 100 and 101.
+// Calls of the run. The row has the q 0.0, the time 10.0, charge 1 and the mobility 0.5. An output by file or by row has
+// four cells.
 ghost use Prim.Native.Nat.{_≤_};
 use crate::held;
 use crate::held::CELL;
@@ -25,6 +25,7 @@ fn changed(n: u64, beta: &[f64], predicted: &[f32], error: &[f32]) -> u64 {
     held::changed32(held::changed32(held::changed64(n, beta), predicted), error)
 }
 
+// Writes what a call answers and leaves.
 fn call(
     file: &[u32],
     peptide: &[u32],
@@ -158,7 +159,8 @@ fn fitted(label: i32, mass: f32, log: f64, cells: usize)
     run(&zero, 0, label, 1, b"A", &offsets, &masses, &logs, cells);
 }
 
-// 0: both fits solved, with just the needed workspace and with more; no training row, so 8 for both; 9 for retention, for mobility and for both.
+// 0: both fits 0, with just the needed workspace and with more; no training row, so both fits 8; 9 for retention, for
+// mobility, and for both.
 fn accepted() {
     let nan = 0.0f32 / 0.0;
     fitted(1, 0.0, 0.0, 20200);
@@ -169,7 +171,7 @@ fn accepted() {
     fitted(1, nan, 0.0 / 0.0, 20300);
 }
 
-// 1: two file numbers, one time; with no file, which is 2 too; one log of two masses.
+// 1: two file numbers, one time; with no file, which is 2 too; one log for two masses.
 fn lengths() {
     let zeros = [0u32; 2];
     let offsets = [0u32, 1, 1];
@@ -200,8 +202,29 @@ fn lengths() {
     run(&zeros[..1], 0, 1, 1, b"A", &offsets, &masses, &logs, 20300);
 }
 
-// 2: no file; 1,025 files, for which the room is too short as well. 3: a workspace of 20,199 cells; with wrong offsets, which is 7 too, and with file 2 of
-// 2, which is 4 too; outputs of 4 cells for 5 files; and for the most files.
+// 0: 5,075 empty peptides in 4 files, which need 20,300 cells; the shares of an empty peptide are NaN, so the mobility
+// fit is 9. 3: one peptide more.
+fn large() {
+    let zero = [0u32];
+    let offsets = [0u32; 5077];
+    let masses = [0.0f32; 5076];
+    let logs = [0.0f64; 5076];
+    run(
+        &zero,
+        0,
+        1,
+        4,
+        b"",
+        &offsets[..5076],
+        &masses[..5075],
+        &logs[..5075],
+        20300,
+    );
+    run(&zero, 0, 1, 4, b"", &offsets, &masses, &logs, 20300);
+}
+
+// 2: no file; 1,025 files, for which the room is too short as well. 3: a workspace a cell too short; with offsets past the
+// letters, which is 7 too, and with file 2 of 2, which is 4 too; outputs too short for 5 files; 1,024 files, which are no 2.
 fn limits() {
     one(0, 0, 0, b"A", 1, 20300);
     one(0, 0, 1025, b"A", 1, 20300);
@@ -224,8 +247,8 @@ fn offsets() {
     one(0, 0, 1, &long, 256, 20300);
 }
 
-// 6: a lower-case letter; with file 2 of 2, which is 4 too, and with peptide 1 of 1, which is 5 too. 4: file 2 of 2; with peptide 1 of 1. 5: peptide 1 of
-// 1.
+// 6: a lower-case letter; with file 2 of 2, which is 4 too, and with peptide 1 of 1, which is 5 too. 4: file 2 of 2; with
+// peptide 1 of 1. 5: peptide 1 of 1.
 fn numbers() {
     one(0, 0, 1, b"a", 1, 20300);
     one(2, 0, 2, b"a", 1, 20300);
@@ -237,6 +260,7 @@ fn numbers() {
 
 pub(crate) fn calls() {
     accepted();
+    large();
     lengths();
     limits();
     offsets();

@@ -12,6 +12,7 @@ fn number(answer: SolveAnswer) -> u64 {
     }
 }
 
+// Writes what a call answers and leaves.
 fn call(
     left: &[f64],
     right: &[f64],
@@ -51,7 +52,7 @@ fn one(left: f64, right: f64, cells: usize, outputs: usize)
     solve(&lefts, &rights, 1, 1, cells, outputs);
 }
 
-// 0 with just the needed room, and with more. Then 3: a workspace or a solution one cell shorter.
+// 0: just the needed room; more of it. 3: a workspace, and a solution, that is a cell too short.
 fn room() {
     one(-1E-8, 5.0, 2, 1);
     one(-1E-8, 5.0, 16, 16);
@@ -59,22 +60,26 @@ fn room() {
     one(-1E-8, 5.0, 2, 0);
 }
 
-// 1: a left side of two cells for order 1; one right cell for two columns; a left cell for order 0, which is 2 too.
+// 1: two left cells for order 1; one right cell for two columns; a left cell for order 0, which is 2 too.
 fn lengths() {
-    let ones = [1.0; 2];
-    solve(&ones, &ones[..1], 1, 1, 16, 16);
-    solve(&ones[..1], &ones[..1], 1, 2, 16, 16);
-    solve(&ones[..1], &ones[..0], 0, 1, 16, 16);
+    let left = [1.0; 2];
+    let right = [1.0];
+    solve(&left, &right, 1, 1, 16, 16);
+    solve(&left[..1], &right, 1, 2, 16, 16);
+    solve(&left[..1], &right[..0], 0, 1, 16, 16);
 }
 
-// 2: order 0; no right column; 9 right columns; order 101, for which the room is too short as well.
+// 2: order 0; no right column; 9 right columns; order 101, for which the room is too short as well. At the limits it
+// isn't: 8 right columns are 0, and order 100 is 3.
 fn limits() {
-    let ones = [1.0; 9];
-    solve(&ones[..0], &ones[..0], 0, 1, 16, 16);
-    solve(&ones[..1], &ones[..0], 1, 0, 16, 16);
-    solve(&ones[..1], &ones, 1, 9, 16, 16);
-    let large = [1.0; 10201];
-    solve(&large, &large[..101], 101, 1, 16, 16);
+    let left = [1.0; 10201];
+    let right = [1.0; 101];
+    solve(&left[..0], &right[..0], 0, 1, 16, 16);
+    solve(&left[..1], &right[..0], 1, 0, 16, 16);
+    solve(&left[..1], &right[..9], 1, 9, 16, 16);
+    solve(&left, &right, 101, 1, 16, 16);
+    solve(&left[..1], &right[..8], 1, 8, 16, 16);
+    solve(&left[..10000], &right[..100], 100, 1, 16, 16);
 }
 
 // 9: a NaN; the diagonal (-1, 1). A NaN in too short a workspace is 3.
