@@ -3,6 +3,8 @@ ghost use Prim.Native.Nat.{_≤_};
 use crate::held;
 use crate::held::CELL;
 use crate::held::VALUE;
+use crate::held::VALUES;
+use crate::held::WORKSPACE;
 use retention_alignment::AlignAnswer;
 
 fn number(answer: AlignAnswer) -> u64 {
@@ -12,45 +14,7 @@ fn number(answer: AlignAnswer) -> u64 {
     }
 }
 
-// Writes what a call answers and leaves.
-fn call(
-    file: &[u32],
-    peptide: &[u32],
-    label: &[i32],
-    q: &[f32],
-    rt: &[f32],
-    files: usize,
-    peptides: usize,
-    workspace: &mut [f64],
-) {
-    let mut max_rt = [VALUE; 4];
-    let mut slope = [VALUE; 4];
-    let mut intercept = [VALUE; 4];
-    let mut aligned = [VALUE; 4];
-    let answer = retention_alignment::global_alignment(
-        file,
-        peptide,
-        label,
-        q,
-        rt,
-        files,
-        peptides,
-        workspace,
-        &mut max_rt,
-        &mut slope,
-        &mut intercept,
-        &mut aligned,
-    );
-    vectors::write_token(number(answer));
-    held::write_workspace(workspace);
-    let lines = held::changed32(
-        held::changed32(held::changed32(0, &max_rt), &slope),
-        &intercept,
-    );
-    vectors::write_token(held::changed32(lines, &aligned));
-}
-
-// With a workspace of so many cells.
+// Writes what a call answers and leaves, whose workspace has so many cells.
 fn align(
     file: &[u32],
     peptide: &[u32],
@@ -61,10 +25,14 @@ fn align(
     peptides: usize,
     cells: usize,
 )
-    requires { ⌜ cells ≤ 8 ⌝ }
+    requires { ⌜ cells ≤ 20300 ⌝ }
 {
-    let mut workspace = [CELL; 8];
-    call(
+    let mut workspace = [CELL; WORKSPACE];
+    let mut max_rt = [VALUE; VALUES];
+    let mut slope = [VALUE; VALUES];
+    let mut intercept = [VALUE; VALUES];
+    let mut aligned = [VALUE; VALUES];
+    let answer = retention_alignment::global_alignment(
         file,
         peptide,
         label,
@@ -73,12 +41,20 @@ fn align(
         files,
         peptides,
         &mut workspace[..cells],
+        &mut max_rt,
+        &mut slope,
+        &mut intercept,
+        &mut aligned,
     );
+    vectors::write_token(number(answer));
+    held::write_workspace(&workspace);
+    let lines = held::changed_lines(&max_rt, &slope, &intercept);
+    vectors::write_token(held::changed32(lines, &aligned));
 }
 
 // A row with the time 10.0.
 fn one(file: u32, peptide: u32, label: i32, files: usize, peptides: usize, cells: usize)
-    requires { ⌜ cells ≤ 8 ⌝ }
+    requires { ⌜ cells ≤ 20300 ⌝ }
 {
     let f = [file];
     let p = [peptide];

@@ -1,8 +1,11 @@
-// Calls of `fit` and `predict` of both models. A row has the q 0.0, charge 1, and 0.5 as its aligned time and its mobility.
+// Calls of `fit` and `predict` of both models. A row has the q 0.0, charge 1, the aligned time 0.5 and the mobility 0.5.
 ghost use Prim.Native.Nat.{_≤_};
 use crate::held;
 use crate::held::CELL;
+use crate::held::CELLS;
 use crate::held::VALUE;
+use crate::held::VALUES;
+use crate::held::WORKSPACE;
 use embedding::Model;
 use models::FitAnswer;
 use models::mobility_model;
@@ -151,42 +154,48 @@ fn call(
     }
 }
 
-// Writes what a call answers and leaves.
-fn report(
+// Writes what a call answers and leaves, whose slices have so many cells.
+fn fit(
     model: Model,
     predicts: bool,
     peptide: &[u32],
-    label: &[i32],
+    label: i32,
     letters: &[u8],
     offsets: &[u32],
     masses: &[f32],
     logs: &[f64],
-    workspace: &mut [f64],
-    beta: &mut [f64],
-    predicted: &mut [f32],
-    error: &mut [f32],
-) {
+    cells: usize,
+    betas: usize,
+    predictions: usize,
+    errors: usize,
+)
+    requires { ⌜ (cells ≤ 20300) × (betas ≤ 101) × (predictions ≤ 4) × (errors ≤ 4) ⌝ }
+{
+    let labels = [label];
+    let mut workspace = [CELL; WORKSPACE];
+    let mut beta = [CELL; CELLS];
+    let mut predicted = [VALUE; VALUES];
+    let mut error = [VALUE; VALUES];
     let answer = call(
         model,
         predicts,
         peptide,
-        label,
+        &labels,
         letters,
         offsets,
         masses,
         logs,
-        workspace,
-        beta,
-        predicted,
-        error,
+        &mut workspace[..cells],
+        &mut beta[..betas],
+        &mut predicted[..predictions],
+        &mut error[..errors],
     );
     vectors::write_token(number(answer));
-    held::write_workspace(workspace);
-    let betas = held::changed64(0, beta);
-    vectors::write_token(held::changed32(held::changed32(betas, predicted), error));
+    held::write_workspace(&workspace);
+    vectors::write_token(held::changed_model(0, &beta, &predicted, &error));
 }
 
-// A row of the peptide A, with slices of so many cells.
+// A row of the peptide A whose offsets are 0 and `end`, with slices of so many cells.
 fn within(
     model: Model,
     predicts: bool,
@@ -196,89 +205,48 @@ fn within(
     predictions: usize,
     errors: usize,
 )
-    requires { ⌜ (cells ≤ 20300) × (betas ≤ 101) × (predictions ≤ 2) × (errors ≤ 2) ⌝ }
+    requires { ⌜ (cells ≤ 20300) × (betas ≤ 101) × (predictions ≤ 4) × (errors ≤ 4) ⌝ }
 {
     let zero = [0u32];
-    let label = [1i32];
     let offsets = [0u32, end];
     let masses = [0.0f32];
     let logs = [0.0f64];
-    let mut workspace = [CELL; 20300];
-    let mut beta = [CELL; 101];
-    let mut predicted = [VALUE; 2];
-    let mut error = [VALUE; 2];
-    report(
+    fit(
         model,
         predicts,
         &zero,
-        &label,
+        1,
         b"A",
         &offsets,
         &masses,
         &logs,
-        &mut workspace[..cells],
-        &mut beta[..betas],
-        &mut predicted[..predictions],
-        &mut error[..errors],
+        cells,
+        betas,
+        predictions,
+        errors,
     );
 }
 
-// With more room than is needed.
-fn ample(
-    model: Model,
-    predicts: bool,
-    peptide: &[u32],
-    label: i32,
-    letters: &[u8],
-    offsets: &[u32],
-    masses: &[f32],
-    logs: &[f64],
-) {
-    let labels = [label];
-    let mut workspace = [CELL; 20300];
-    let mut beta = [CELL; 101];
-    let mut predicted = [VALUE; 2];
-    let mut error = [VALUE; 2];
-    report(
-        model,
-        predicts,
-        peptide,
-        &labels,
-        letters,
-        offsets,
-        masses,
-        logs,
-        &mut workspace,
-        &mut beta,
-        &mut predicted,
-        &mut error,
-    );
-}
-
-// A row, and a table of one peptide that ends at `end`.
-fn one(
-    model: Model,
-    predicts: bool,
-    peptide: u32,
-    label: i32,
-    letters: &[u8],
-    end: u32,
-    mass: f32,
-    log: f64,
-) {
+// A row, and a table of one peptide of one letter.
+fn one(model: Model, predicts: bool, peptide: u32, label: i32, letter: u8, mass: f32, log: f64) {
     let peptides = [peptide];
-    let offsets = [0u32, end];
+    let letters = [letter];
+    let offsets = [0u32, 1];
     let masses = [mass];
     let logs = [log];
-    ample(
+    fit(
         model,
         predicts,
         &peptides,
         label,
-        letters,
+        &letters,
         &offsets,
         &masses,
         &logs,
+        20300,
+        101,
+        4,
+        4,
     );
 }
 
@@ -287,18 +255,31 @@ fn two(model: Model, predicts: bool, letters: &[u8], b: u32, c: u32, logs: &[f64
     let zero = [0u32];
     let offsets = [0u32, b, c];
     let masses = [0.0f32; 2];
-    ample(model, predicts, &zero, 1, letters, &offsets, &masses, logs);
+    fit(
+        model,
+        predicts,
+        &zero,
+        1,
+        letters,
+        &offsets,
+        &masses,
+        logs,
+        20300,
+        101,
+        4,
+        4,
+    );
 }
 
 // 0: the peptide A with mass 0.0, whose log is 0.0. 8: no training row. 9: a NaN, as log for retention and as mass for
 // mobility; the other model does not read it. 8: both NaN in a row that does not train.
 fn fitted(model: Model, predicts: bool) {
     let nan = 0.0f32 / 0.0;
-    one(model, predicts, 0, 1, b"A", 1, 0.0, 0.0);
-    one(model, predicts, 0, -1, b"A", 1, 0.0, 0.0);
-    one(model, predicts, 0, 1, b"A", 1, 0.0, 0.0 / 0.0);
-    one(model, predicts, 0, 1, b"A", 1, nan, 0.0);
-    one(model, predicts, 0, -1, b"A", 1, nan, 0.0 / 0.0);
+    one(model, predicts, 0, 1, b'A', 0.0, 0.0);
+    one(model, predicts, 0, -1, b'A', 0.0, 0.0);
+    one(model, predicts, 0, 1, b'A', 0.0, 0.0 / 0.0);
+    one(model, predicts, 0, 1, b'A', nan, 0.0);
+    one(model, predicts, 0, -1, b'A', nan, 0.0 / 0.0);
 }
 
 // 1: two peptide numbers, one label; with a lower-case letter, which is 6 too; one log for two masses, which is 0 for
@@ -308,8 +289,34 @@ fn lengths(model: Model, predicts: bool) {
     let offsets = [0u32, 1];
     let masses = [0.0f32];
     let logs = [0.0f64];
-    ample(model, predicts, &zeros, 1, b"A", &offsets, &masses, &logs);
-    ample(model, predicts, &zeros, 1, b"a", &offsets, &masses, &logs);
+    fit(
+        model,
+        predicts,
+        &zeros,
+        1,
+        b"A",
+        &offsets,
+        &masses,
+        &logs,
+        20300,
+        101,
+        4,
+        4,
+    );
+    fit(
+        model,
+        predicts,
+        &zeros,
+        1,
+        b"a",
+        &offsets,
+        &masses,
+        &logs,
+        20300,
+        101,
+        4,
+        4,
+    );
     two(model, predicts, b"A", 1, 1, &logs);
 }
 
@@ -317,13 +324,13 @@ fn lengths(model: Model, predicts: bool) {
 // coefficients; no room for the prediction, and for the error, which is 0 for `fit`; a workspace too short with offsets
 // past the letters, which is 7 too.
 fn room(model: Model, predicts: bool) {
-    within(model, predicts, 1, 9659, 101, 2, 2);
-    within(model, predicts, 1, 20199, 101, 2, 2);
-    within(model, predicts, 1, 20300, 68, 2, 2);
-    within(model, predicts, 1, 20300, 99, 2, 2);
-    within(model, predicts, 1, 20300, 101, 0, 2);
-    within(model, predicts, 1, 20300, 101, 2, 0);
-    within(model, predicts, 2, 9659, 101, 2, 2);
+    within(model, predicts, 1, 9659, 101, 4, 4);
+    within(model, predicts, 1, 20199, 101, 4, 4);
+    within(model, predicts, 1, 20300, 68, 4, 4);
+    within(model, predicts, 1, 20300, 99, 4, 4);
+    within(model, predicts, 1, 20300, 101, 0, 4);
+    within(model, predicts, 1, 20300, 101, 4, 0);
+    within(model, predicts, 2, 9659, 101, 4, 4);
 }
 
 // 7: the offsets 0, 2, 1; with a lower-case letter, which is 6 too; a peptide of 256 letters.
@@ -332,18 +339,18 @@ fn offsets(model: Model, predicts: bool) {
     two(model, predicts, b"A", 2, 1, &logs);
     two(model, predicts, b"a", 2, 1, &logs);
     let long = [65u8; 256];
-    one(model, predicts, 0, 1, &long, 256, 0.0, 0.0);
+    two(model, predicts, &long, 256, 256, &logs);
 }
 
 // 6: a lower-case letter; in a peptide without a row; with peptide 1 of 1, which is 5 too. 5: peptide 1 of 1; in a row
 // that does not train, which is 8 too.
 fn letters(model: Model, predicts: bool) {
     let logs = [0.0f64; 2];
-    one(model, predicts, 0, 1, b"a", 1, 0.0, 0.0);
+    one(model, predicts, 0, 1, b'a', 0.0, 0.0);
     two(model, predicts, b"Aa", 1, 2, &logs);
-    one(model, predicts, 1, 1, b"a", 1, 0.0, 0.0);
-    one(model, predicts, 1, 1, b"A", 1, 0.0, 0.0);
-    one(model, predicts, 1, -1, b"A", 1, 0.0, 0.0);
+    one(model, predicts, 1, 1, b'a', 0.0, 0.0);
+    one(model, predicts, 1, 1, b'A', 0.0, 0.0);
+    one(model, predicts, 1, -1, b'A', 0.0, 0.0);
 }
 
 pub(crate) fn calls(model: Model, predicts: bool) {

@@ -1,9 +1,16 @@
-// What the slices hold before a call, and what a call changed in them.
+// What the slices hold before a call, and what a call changed in them. They are parts of arrays, which are looked at whole.
 use regression::FitOutcome;
 
 pub const CELL: f64 = 7.5;
 
 pub const VALUE: f32 = 7.5;
+
+// The lengths of every workspace, and of every output of f64 and of f32.
+pub const WORKSPACE: usize = 20300;
+
+pub const CELLS: usize = 101;
+
+pub const VALUES: usize = 4;
 
 // How many cells at the front are +0.0.
 fn front_zeros(cells: &[f64]) -> usize {
@@ -18,7 +25,7 @@ fn front_zeros(cells: &[f64]) -> usize {
 }
 
 // n, and one more for each cell that changed. The sum may wrap, so it needs no bound.
-pub(crate) fn changed64(n: u64, cells: &[f64]) -> u64 {
+fn changed(n: u64, cells: &[f64]) -> u64 {
     let mut count = n;
     for i in 0..cells.len() {
         if cells[i] != CELL {
@@ -28,10 +35,13 @@ pub(crate) fn changed64(n: u64, cells: &[f64]) -> u64 {
     count
 }
 
-// The same for values.
-pub(crate) fn changed32(n: u64, values: &[f32]) -> u64 {
+pub(crate) fn changed64(n: u64, cells: &[f64; CELLS]) -> u64 {
+    changed(n, cells)
+}
+
+pub(crate) fn changed32(n: u64, values: &[f32; VALUES]) -> u64 {
     let mut count = n;
-    for i in 0..values.len() {
+    for i in 0..VALUES {
         if values[i] != VALUE {
             count = std::num::wrapping_add_u64(count, 1);
         }
@@ -39,10 +49,29 @@ pub(crate) fn changed32(n: u64, values: &[f32]) -> u64 {
     count
 }
 
-// Writes what a call left in the workspace.
-pub(crate) fn write_workspace(workspace: &[f64]) {
+// How many values of the files' records changed.
+pub(crate) fn changed_lines(
+    max_rt: &[f32; VALUES],
+    slope: &[f32; VALUES],
+    intercept: &[f32; VALUES],
+) -> u64 {
+    changed32(changed32(changed32(0, max_rt), slope), intercept)
+}
+
+// n, and how many cells of a model's outputs changed.
+pub(crate) fn changed_model(
+    n: u64,
+    beta: &[f64; CELLS],
+    predicted: &[f32; VALUES],
+    error: &[f32; VALUES],
+) -> u64 {
+    changed32(changed32(changed64(n, beta), predicted), error)
+}
+
+// Writes what a call left in a workspace.
+pub(crate) fn write_workspace(workspace: &[f64; WORKSPACE]) {
     vectors::write_token(front_zeros(workspace) as u64);
-    vectors::write_token(changed64(0, workspace));
+    vectors::write_token(changed(0, workspace));
 }
 
 // The number of a fit's outcome.

@@ -3,7 +3,10 @@
 ghost use Prim.Native.Nat.{_≤_};
 use crate::held;
 use crate::held::CELL;
+use crate::held::CELLS;
 use crate::held::VALUE;
+use crate::held::VALUES;
+use crate::held::WORKSPACE;
 use run::RunAnswer;
 
 fn write_numbers(answer: RunAnswer) {
@@ -20,84 +23,7 @@ fn write_numbers(answer: RunAnswer) {
     }
 }
 
-// How many cells of a model's outputs changed, and n.
-fn changed(n: u64, beta: &[f64], predicted: &[f32], error: &[f32]) -> u64 {
-    held::changed32(held::changed32(held::changed64(n, beta), predicted), error)
-}
-
-// Writes what a call answers and leaves.
-fn call(
-    file: &[u32],
-    peptide: &[u32],
-    label: &[i32],
-    files: usize,
-    letters: &[u8],
-    offsets: &[u32],
-    masses: &[f32],
-    logs: &[f64],
-    workspace: &mut [f64],
-) {
-    let q = [0.0f32];
-    let rt = [10.0f32];
-    let charge = [1u8];
-    let mobility = [0.5f32];
-    let mut max_rt = [VALUE; 4];
-    let mut slope = [VALUE; 4];
-    let mut intercept = [VALUE; 4];
-    let mut aligned = [VALUE; 4];
-    let mut retention_beta = [CELL; 100];
-    let mut retention_predicted = [VALUE; 4];
-    let mut retention_error = [VALUE; 4];
-    let mut mobility_beta = [CELL; 101];
-    let mut mobility_predicted = [VALUE; 4];
-    let mut mobility_error = [VALUE; 4];
-    let answer = run::run(
-        file,
-        peptide,
-        label,
-        &q,
-        &rt,
-        &charge,
-        &mobility,
-        files,
-        letters,
-        offsets,
-        masses,
-        logs,
-        workspace,
-        &mut max_rt,
-        &mut slope,
-        &mut intercept,
-        &mut aligned,
-        &mut retention_beta,
-        &mut retention_predicted,
-        &mut retention_error,
-        &mut mobility_beta,
-        &mut mobility_predicted,
-        &mut mobility_error,
-    );
-    write_numbers(answer);
-    held::write_workspace(workspace);
-    let lines = held::changed32(
-        held::changed32(held::changed32(0, &max_rt), &slope),
-        &intercept,
-    );
-    let times = held::changed32(lines, &aligned);
-    let retention = changed(
-        times,
-        &retention_beta,
-        &retention_predicted,
-        &retention_error,
-    );
-    vectors::write_token(changed(
-        retention,
-        &mobility_beta,
-        &mobility_predicted,
-        &mobility_error,
-    ));
-}
-
-// With a workspace of so many cells.
+// Writes what a call answers and leaves, whose workspace has so many cells.
 fn run(
     file: &[u32],
     peptide: u32,
@@ -113,25 +39,70 @@ fn run(
 {
     let peptides = [peptide];
     let labels = [label];
-    let mut workspace = [CELL; 20300];
-    call(
+    let q = [0.0f32];
+    let rt = [10.0f32];
+    let charge = [1u8];
+    let mobility = [0.5f32];
+    let mut workspace = [CELL; WORKSPACE];
+    let mut max_rt = [VALUE; VALUES];
+    let mut slope = [VALUE; VALUES];
+    let mut intercept = [VALUE; VALUES];
+    let mut aligned = [VALUE; VALUES];
+    let mut retention_beta = [CELL; CELLS];
+    let mut retention_predicted = [VALUE; VALUES];
+    let mut retention_error = [VALUE; VALUES];
+    let mut mobility_beta = [CELL; CELLS];
+    let mut mobility_predicted = [VALUE; VALUES];
+    let mut mobility_error = [VALUE; VALUES];
+    let answer = run::run(
         file,
         &peptides,
         &labels,
+        &q,
+        &rt,
+        &charge,
+        &mobility,
         files,
         letters,
         offsets,
         masses,
         logs,
         &mut workspace[..cells],
+        &mut max_rt,
+        &mut slope,
+        &mut intercept,
+        &mut aligned,
+        &mut retention_beta,
+        &mut retention_predicted,
+        &mut retention_error,
+        &mut mobility_beta,
+        &mut mobility_predicted,
+        &mut mobility_error,
     );
+    write_numbers(answer);
+    held::write_workspace(&workspace);
+    let lines = held::changed_lines(&max_rt, &slope, &intercept);
+    let times = held::changed32(lines, &aligned);
+    let n = held::changed_model(
+        times,
+        &retention_beta,
+        &retention_predicted,
+        &retention_error,
+    );
+    vectors::write_token(held::changed_model(
+        n,
+        &mobility_beta,
+        &mobility_predicted,
+        &mobility_error,
+    ));
 }
 
-// A table of one peptide that ends at `end`.
-fn one(file: u32, peptide: u32, files: usize, letters: &[u8], end: u32, cells: usize)
+// A training row, and a table of one peptide of one letter whose offsets are 0 and `end`.
+fn one(file: u32, peptide: u32, files: usize, letter: u8, end: u32, cells: usize)
     requires { ⌜ cells ≤ 20300 ⌝ }
 {
     let number = [file];
+    let letters = [letter];
     let offsets = [0u32, end];
     let masses = [0.0f32];
     let logs = [0.0f64];
@@ -140,12 +111,21 @@ fn one(file: u32, peptide: u32, files: usize, letters: &[u8], end: u32, cells: u
         peptide,
         1,
         files,
-        letters,
+        &letters,
         &offsets,
         &masses,
         &logs,
         cells,
     );
+}
+
+// A training row in file 0 of 1, and a table of two peptides with the offsets 0, b and c.
+fn two(letters: &[u8], b: u32, c: u32) {
+    let zero = [0u32];
+    let offsets = [0u32, b, c];
+    let masses = [0.0f32; 2];
+    let logs = [0.0f64; 2];
+    run(&zero, 0, 1, 1, letters, &offsets, &masses, &logs, 20300);
 }
 
 // The peptide A, in file 0 of 1.
@@ -171,35 +151,25 @@ fn accepted() {
     fitted(1, nan, 0.0 / 0.0, 20300);
 }
 
-// 1: two file numbers, one time; with no file, which is 2 too; one log for two masses.
+// 1: two file numbers, one time; with no file, which is 2 too; no log for a mass.
 fn lengths() {
     let zeros = [0u32; 2];
-    let offsets = [0u32, 1, 1];
-    let masses = [0.0f32; 2];
+    let offsets = [0u32, 1];
+    let masses = [0.0f32];
     let logs = [0.0f64];
+    run(&zeros, 0, 1, 1, b"A", &offsets, &masses, &logs, 20300);
+    run(&zeros, 0, 1, 0, b"A", &offsets, &masses, &logs, 20300);
     run(
-        &zeros,
+        &zeros[..1],
         0,
         1,
         1,
         b"A",
-        &offsets[..2],
-        &masses[..1],
-        &logs,
+        &offsets,
+        &masses,
+        &logs[..0],
         20300,
     );
-    run(
-        &zeros,
-        0,
-        1,
-        0,
-        b"A",
-        &offsets[..2],
-        &masses[..1],
-        &logs,
-        20300,
-    );
-    run(&zeros[..1], 0, 1, 1, b"A", &offsets, &masses, &logs, 20300);
 }
 
 // 0: 5,075 empty peptides in 4 files, which need 20,300 cells; the shares of an empty peptide are NaN, so the mobility
@@ -226,36 +196,32 @@ fn large() {
 // 2: no file; 1,025 files, for which the room is too short as well. 3: a workspace a cell too short; with offsets past the
 // letters, which is 7 too, and with file 2 of 2, which is 4 too; outputs too short for 5 files; 1,024 files, which are no 2.
 fn limits() {
-    one(0, 0, 0, b"A", 1, 20300);
-    one(0, 0, 1025, b"A", 1, 20300);
-    one(0, 0, 1, b"A", 1, 20199);
-    one(0, 0, 1, b"A", 2, 20199);
-    one(2, 0, 2, b"A", 1, 20199);
-    one(0, 0, 5, b"A", 1, 20300);
-    one(0, 0, 1024, b"A", 1, 20300);
+    one(0, 0, 0, b'A', 1, 20300);
+    one(0, 0, 1025, b'A', 1, 20300);
+    one(0, 0, 1, b'A', 1, 20199);
+    one(0, 0, 1, b'A', 2, 20199);
+    one(2, 0, 2, b'A', 1, 20199);
+    one(0, 0, 5, b'A', 1, 20300);
+    one(0, 0, 1024, b'A', 1, 20300);
 }
 
 // 7: the offsets 0, 2, 1; with a lower-case letter, which is 6 too; a peptide of 256 letters.
 fn offsets() {
-    let zero = [0u32];
-    let falling = [0u32, 2, 1];
-    let masses = [0.0f32; 2];
-    let logs = [0.0f64; 2];
-    run(&zero, 0, 1, 1, b"A", &falling, &masses, &logs, 20300);
-    run(&zero, 0, 1, 1, b"a", &falling, &masses, &logs, 20300);
     let long = [65u8; 256];
-    one(0, 0, 1, &long, 256, 20300);
+    two(b"A", 2, 1);
+    two(b"a", 2, 1);
+    two(&long, 256, 256);
 }
 
 // 6: a lower-case letter; with file 2 of 2, which is 4 too, and with peptide 1 of 1, which is 5 too. 4: file 2 of 2; with
 // peptide 1 of 1. 5: peptide 1 of 1.
 fn numbers() {
-    one(0, 0, 1, b"a", 1, 20300);
-    one(2, 0, 2, b"a", 1, 20300);
-    one(0, 1, 1, b"a", 1, 20300);
-    one(2, 0, 2, b"A", 1, 20300);
-    one(2, 1, 2, b"A", 1, 20300);
-    one(0, 1, 1, b"A", 1, 20300);
+    one(0, 0, 1, b'a', 1, 20300);
+    one(2, 0, 2, b'a', 1, 20300);
+    one(0, 1, 1, b'a', 1, 20300);
+    one(2, 0, 2, b'A', 1, 20300);
+    one(2, 1, 2, b'A', 1, 20300);
+    one(0, 1, 1, b'A', 1, 20300);
 }
 
 pub(crate) fn calls() {

@@ -2,6 +2,8 @@
 ghost use Prim.Native.Nat.{_≤_};
 use crate::held;
 use crate::held::CELL;
+use crate::held::CELLS;
+use crate::held::WORKSPACE;
 use gauss::SolveAnswer;
 
 fn number(answer: SolveAnswer) -> u64 {
@@ -12,28 +14,13 @@ fn number(answer: SolveAnswer) -> u64 {
     }
 }
 
-// Writes what a call answers and leaves.
-fn call(
-    left: &[f64],
-    right: &[f64],
-    n: usize,
-    c: usize,
-    workspace: &mut [f64],
-    solution: &mut [f64],
-) {
-    let answer = gauss::solve(left, right, n, c, workspace, solution);
-    vectors::write_token(number(answer));
-    held::write_workspace(workspace);
-    vectors::write_token(held::changed64(0, solution));
-}
-
-// With a workspace and a solution of so many cells.
+// Writes what a call answers and leaves, whose workspace and solution have so many cells.
 fn solve(left: &[f64], right: &[f64], n: usize, c: usize, cells: usize, outputs: usize)
-    requires { ⌜ (cells ≤ 16) × (outputs ≤ 16) ⌝ }
+    requires { ⌜ (cells ≤ 20300) × (outputs ≤ 101) ⌝ }
 {
-    let mut workspace = [CELL; 16];
-    let mut solution = [CELL; 16];
-    call(
+    let mut workspace = [CELL; WORKSPACE];
+    let mut solution = [CELL; CELLS];
+    let answer = gauss::solve(
         left,
         right,
         n,
@@ -41,11 +28,14 @@ fn solve(left: &[f64], right: &[f64], n: usize, c: usize, cells: usize, outputs:
         &mut workspace[..cells],
         &mut solution[..outputs],
     );
+    vectors::write_token(number(answer));
+    held::write_workspace(&workspace);
+    vectors::write_token(held::changed64(0, &solution));
 }
 
 // A system of order 1.
 fn one(left: f64, right: f64, cells: usize, outputs: usize)
-    requires { ⌜ (cells ≤ 16) × (outputs ≤ 16) ⌝ }
+    requires { ⌜ (cells ≤ 20300) × (outputs ≤ 101) ⌝ }
 {
     let lefts = [left];
     let rights = [right];

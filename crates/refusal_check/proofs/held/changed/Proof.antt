@@ -1,9 +1,9 @@
--- `refusal_check::held::changed64` is safe and ends.
+-- `refusal_check::held::changed` is safe and ends.
 use Prim.Native.Nat.{_-_, _≤_}
 use lib.ListN.{length}
 use borrow.Author.Needs.{needs}
-use Rattle.refusal_check.proofs.held.changed64.Statement.{statement}
-use Rattle.refusal_check.proofs.held.changed64.Tie as tie
+use Rattle.refusal_check.proofs.held.changed.Statement.{statement}
+use Rattle.refusal_check.proofs.held.changed.Tie as tie
 
 abbrev Inv-loop : tie.InvT-loop
 Inv-loop n cells count₀ i₀ i-end count i = i ≤ length cells
@@ -35,8 +35,8 @@ loop-again c = search needs
 returns : tie.Need-returns Inv-loop μ-loop
 returns c = search needs
 
-pub changed64-spec : {M : Type 1} → statement M
-changed64-spec =
+pub changed-spec : {M : Type 1} → statement M
+changed-spec =
     tie.close
     (tie.spec
     Inv-loop
