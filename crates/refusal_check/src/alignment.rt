@@ -106,7 +106,8 @@ fn lengths() {
     two(&zeros, &zeros, &rt, 0, 1);
 }
 
-// 2: no file; and, with the room too short as well, 1,025 files, 1,048,577 peptides, and 1,048,576 peptides in 17 files.
+// 2: no file; and, with the room too short as well, 1,025 files, 1,048,577 peptides, and 1,048,576 peptides in 17
+// files.
 fn limits() {
     one(0, 0, 1, 0, 1, 8);
     one(0, 0, 1, 1025, 1, 8);
@@ -114,8 +115,8 @@ fn limits() {
     one(0, 0, 1, 17, 1048576, 8);
 }
 
-// 3: a workspace of 5 cells for 3 peptides and 2 files; with file 2 of 2, which is 4 too; outputs too short for 5 files;
-// 1,024 files, and 1,048,576 peptides in 16 files, which are no 2.
+// 3: a workspace of 5 cells for 3 peptides and 2 files; with file 2 of 2, which is 4 too; outputs too short for 5
+// files; 1,024 files, and 1,048,576 peptides in 16 files, which are within the limits.
 fn room() {
     one(0, 0, 1, 2, 3, 5);
     one(2, 0, 1, 2, 3, 5);

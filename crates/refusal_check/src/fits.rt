@@ -1,4 +1,5 @@
-// Calls of `fit` and `predict` of both models. A row has the q 0.0, charge 1, the aligned time 0.5 and the mobility 0.5.
+// Calls of `fit` and `predict` of both models. A row has the q 0.0, charge 1, the aligned time 0.5 and the mobility
+// 0.5.
 ghost use Prim.Native.Nat.{_≤_};
 use crate::held;
 use crate::held::CELL;
@@ -18,99 +19,7 @@ fn number(answer: FitAnswer) -> u64 {
     }
 }
 
-// A call of the retention model's `predict` or `fit`.
-fn retention(
-    predicts: bool,
-    peptide: &[u32],
-    label: &[i32],
-    letters: &[u8],
-    offsets: &[u32],
-    masses: &[f32],
-    logs: &[f64],
-    workspace: &mut [f64],
-    beta: &mut [f64],
-    predicted: &mut [f32],
-    error: &mut [f32],
-) -> FitAnswer {
-    let q = [0.0f32];
-    let aligned = [0.5f32];
-    if predicts {
-        return retention_model::predict(
-            peptide,
-            label,
-            &q,
-            &aligned,
-            letters,
-            offsets,
-            masses,
-            logs,
-            workspace,
-            beta,
-            predicted,
-            error,
-        );
-    }
-    retention_model::fit(
-        peptide,
-        label,
-        &q,
-        &aligned,
-        letters,
-        offsets,
-        masses,
-        logs,
-        workspace,
-        beta,
-    )
-}
-
-// The same for mobility.
-fn mobility(
-    predicts: bool,
-    peptide: &[u32],
-    label: &[i32],
-    letters: &[u8],
-    offsets: &[u32],
-    masses: &[f32],
-    workspace: &mut [f64],
-    beta: &mut [f64],
-    predicted: &mut [f32],
-    error: &mut [f32],
-) -> FitAnswer {
-    let q = [0.0f32];
-    let charge = [1u8];
-    let observed = [0.5f32];
-    if predicts {
-        return mobility_model::predict(
-            peptide,
-            label,
-            &q,
-            &charge,
-            &observed,
-            letters,
-            offsets,
-            masses,
-            workspace,
-            beta,
-            predicted,
-            error,
-        );
-    }
-    mobility_model::fit(
-        peptide,
-        label,
-        &q,
-        &charge,
-        &observed,
-        letters,
-        offsets,
-        masses,
-        workspace,
-        beta,
-    )
-}
-
-// The same for either model.
+// A call of a model's `predict` or `fit`.
 fn call(
     model: Model,
     predicts: bool,
@@ -125,32 +34,70 @@ fn call(
     predicted: &mut [f32],
     error: &mut [f32],
 ) -> FitAnswer {
+    let q = [0.0f32];
+    let z = [1u8];
+    let y = [0.5f32];
     match model {
-        Model::Retention => retention(
-            predicts,
-            peptide,
-            label,
-            letters,
-            offsets,
-            masses,
-            logs,
-            workspace,
-            beta,
-            predicted,
-            error,
-        ),
-        Model::Mobility => mobility(
-            predicts,
-            peptide,
-            label,
-            letters,
-            offsets,
-            masses,
-            workspace,
-            beta,
-            predicted,
-            error,
-        ),
+        Model::Retention => {
+            if predicts {
+                return retention_model::predict(
+                    peptide,
+                    label,
+                    &q,
+                    &y,
+                    letters,
+                    offsets,
+                    masses,
+                    logs,
+                    workspace,
+                    beta,
+                    predicted,
+                    error,
+                );
+            }
+            retention_model::fit(
+                peptide,
+                label,
+                &q,
+                &y,
+                letters,
+                offsets,
+                masses,
+                logs,
+                workspace,
+                beta,
+            )
+        }
+        Model::Mobility => {
+            if predicts {
+                return mobility_model::predict(
+                    peptide,
+                    label,
+                    &q,
+                    &z,
+                    &y,
+                    letters,
+                    offsets,
+                    masses,
+                    workspace,
+                    beta,
+                    predicted,
+                    error,
+                );
+            }
+            mobility_model::fit(
+                peptide,
+                label,
+                &q,
+                &z,
+                &y,
+                letters,
+                offsets,
+                masses,
+                workspace,
+                beta,
+            )
+        }
     }
 }
 
@@ -320,9 +267,9 @@ fn lengths(model: Model, predicts: bool) {
     two(model, predicts, b"A", 1, 1, &logs);
 }
 
-// 3: a cell less of workspace than retention needs, and than mobility needs, which is 0 for retention; the same for the
-// coefficients; no room for the prediction, and for the error, which is 0 for `fit`; a workspace too short with offsets
-// past the letters, which is 7 too.
+// 3: a cell less of workspace than retention needs, and than mobility needs, which is 0 for retention; the same for
+// the coefficients; no room for the prediction, and for the error, which is 0 for `fit`; a workspace too short with
+// offsets past the letters, which is 7 too.
 fn room(model: Model, predicts: bool) {
     within(model, predicts, 1, 9659, 101, 4, 4);
     within(model, predicts, 1, 20199, 101, 4, 4);

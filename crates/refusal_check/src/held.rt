@@ -1,11 +1,13 @@
-// What the slices hold before a call, and what a call changed in them. They are parts of arrays, which are looked at whole.
+// What the slices hold before a call, and what a call changed in them. They are parts of arrays, which are looked at
+// whole.
 use regression::FitOutcome;
 
+// What every cell and every value holds before a call.
 pub const CELL: f64 = 7.5;
 
 pub const VALUE: f32 = 7.5;
 
-// The lengths of every workspace, and of every output of f64 and of f32.
+// The lengths of the workspace, of an output of f64 and of an output of f32.
 pub const WORKSPACE: usize = 20300;
 
 pub const CELLS: usize = 101;
@@ -24,7 +26,7 @@ fn front_zeros(cells: &[f64]) -> usize {
     i
 }
 
-// n, and one more for each cell that changed. The sum may wrap, so it needs no bound.
+// n, and one more for each cell that changed. The sum may wrap, and so asks for no bound.
 fn changed(n: u64, cells: &[f64]) -> u64 {
     let mut count = n;
     for i in 0..cells.len() {

@@ -1,5 +1,5 @@
-// Calls of the run. The row has the q 0.0, the time 10.0, charge 1 and the mobility 0.5. An output by file or by row has
-// four cells.
+// Calls of the run. The row has the q 0.0, the time 10.0, charge 1 and the mobility 0.5. An output by file or by row
+// has four cells.
 ghost use Prim.Native.Nat.{_≤_};
 use crate::held;
 use crate::held::CELL;
@@ -193,8 +193,9 @@ fn large() {
     run(&zero, 0, 1, 4, b"", &offsets, &masses, &logs, 20300);
 }
 
-// 2: no file; 1,025 files, for which the room is too short as well. 3: a workspace a cell too short; with offsets past the
-// letters, which is 7 too, and with file 2 of 2, which is 4 too; outputs too short for 5 files; 1,024 files, which are no 2.
+// 2: no file; 1,025 files, for which the room is too short as well. 3: a workspace a cell too short; with offsets past
+// the letters, which is 7 too, and with file 2 of 2, which is 4 too; outputs too short for 5 files; 1,024 files, which
+// are within the limits.
 fn limits() {
     one(0, 0, 0, b'A', 1, 20300);
     one(0, 0, 1025, b'A', 1, 20300);
@@ -213,8 +214,8 @@ fn offsets() {
     two(&long, 256, 256);
 }
 
-// 6: a lower-case letter; with file 2 of 2, which is 4 too, and with peptide 1 of 1, which is 5 too. 4: file 2 of 2; with
-// peptide 1 of 1. 5: peptide 1 of 1.
+// 6: a lower-case letter; with file 2 of 2, which is 4 too, and with peptide 1 of 1, which is 5 too. 4: file 2 of 2;
+// with peptide 1 of 1. 5: peptide 1 of 1.
 fn numbers() {
     one(0, 0, 1, b'a', 1, 20300);
     one(2, 0, 2, b'a', 1, 20300);

@@ -59,8 +59,8 @@ fn lengths() {
     solve(&left[..1], &right[..0], 0, 1, 16, 16);
 }
 
-// 2: order 0; no right column; 9 right columns; order 101, for which the room is too short as well. At the limits it
-// isn't: 8 right columns are 0, and order 100 is 3.
+// 2: order 0; no right column; 9 right columns; order 101, for which the room is too short as well. Within the limits:
+// 8 right columns, which are 0, and order 100, which is 3.
 fn limits() {
     let left = [1.0; 10201];
     let right = [1.0; 101];
