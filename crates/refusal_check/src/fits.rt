@@ -218,8 +218,10 @@ fn two(model: Model, predicts: bool, letters: &[u8], b: u32, c: u32, logs: &[f64
     );
 }
 
-// 0: the peptide A with mass 0.0, whose log is 0.0. 8: no training row. 9: a NaN, as log for retention and as mass for
-// mobility; the other model does not read it. 8: both NaN in a row that does not train.
+// 0: the peptide A with mass 0.0, whose log is 0.0; its design row is zeros and ones, so the ridge 1.0 solves the fit
+// if none before it does. 8: no training row. 9: a NaN, as log for retention and as mass for mobility; it fills a row
+// of the equations, whose cell on the diagonal is NaN then. The other model does not read it. 8: a NaN for either in a
+// row that does not train.
 fn fitted(model: Model, predicts: bool) {
     let nan = 0.0f32 / 0.0;
     one(model, predicts, 0, 1, b'A', 0.0, 0.0);
