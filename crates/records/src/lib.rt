@@ -1,4 +1,5 @@
 // A row finds its file's record in a list of records: one lookup, and a row's aligned time by it.
+ghost use mathlib.Core.Path.{_≡_};
 ghost use Rattle.records.specs.Record.{LookupCall, TimeByCall, AlignedCall};
 use matrix::FileIx;
 pub use retention_alignment::Alignment;
@@ -15,8 +16,8 @@ pub enum AlignedTime {
     Refused(u8),
 }
 
-// The record of a file; BAD_FILE where the list ends before it.
-pub fn record_of(records: &[Alignment], file: u32) -> Found
+// The record of a file as the list has it; BAD_FILE where the list ends before it.
+fn find(records: &[Alignment], file: u32) -> Found
     ensures { λ r. ⌜ LookupCall (now (records .entry)) file r ⌝ }
 {
     let f = FileIx(file);
@@ -26,6 +27,27 @@ pub fn record_of(records: &[Alignment], file: u32) -> Found
     } else {
         Found::Refused(feature::BAD_FILE)
     }
+}
+
+// What a lookup found, with the one NaN for every NaN.
+fn canonical(found: Found) -> Found
+    ensures { λ r. ⌜ r ≡ found ⌝ }
+{
+    match found {
+        Found::At(a) => Found::At(Alignment {
+            max_rt: float::canonical32(a.max_rt),
+            slope: float::canonical32(a.slope),
+            intercept: float::canonical32(a.intercept),
+        }),
+        Found::Refused(status) => Found::Refused(status),
+    }
+}
+
+// The record of a file, with the one NaN for every NaN of the list; BAD_FILE where the list ends before it.
+pub fn record_of(records: &[Alignment], file: u32) -> Found
+    ensures { λ r. ⌜ LookupCall (now (records .entry)) file r ⌝ }
+{
+    canonical(find(records, file))
 }
 
 // A time by what a lookup found.

@@ -95,16 +95,15 @@ pub(crate) fn of_run(a: RunAnswer) -> RunReport
     }
 }
 
-// A NaN of the list comes out as the one NaN.
 pub(crate) fn of_found(f: Found) -> RecordAnswer
     ensures { λ r. ⌜ r ≡ ofFound f ⌝ }
 {
     match f {
         Found::At(a) => RecordAnswer {
             status: feature::ACCEPTED,
-            max_rt: float::canonical32(a.max_rt),
-            slope: float::canonical32(a.slope),
-            intercept: float::canonical32(a.intercept),
+            max_rt: a.max_rt,
+            slope: a.slope,
+            intercept: a.intercept,
         },
         Found::Refused(status) => RecordAnswer {
             status,

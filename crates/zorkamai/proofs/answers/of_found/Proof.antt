@@ -1,5 +1,5 @@
 -- `zorkamai::answers::of_found` meets its contract.
-use mathlib.Core.Path.{sym, ap, _∙_}
+use mathlib.Core.Path.{sym, ap}
 use Rattle.zorkamai.specs.Answers.{ofFound}
 use borrow.Author.Needs.{needs}
 use Rattle.zorkamai.proofs.answers.of_found.Statement.{statement}
@@ -8,34 +8,14 @@ use Rattle.zorkamai.proofs.answers.of_found.Tie as tie
 enum-known-f : tie.Need-enum-known-f
 enum-known-f c = search needs
 
-canonical32-requires : tie.Need-canonical32-requires
-canonical32-requires c κs = search needs
-
-canonical32-requires-2 : tie.Need-canonical32-requires-2
-canonical32-requires-2 c κs = search needs
-
-canonical32-requires-3 : tie.Need-canonical32-requires-3
-canonical32-requires-3 c κs = search needs
-
 enum-known-f-2 : tie.Need-enum-known-f-2
 enum-known-f-2 c = search needs
 
 returns : tie.Need-returns
-returns c =
-    cc (c .before .before .canonical32 .ensures, c .before .canonical322 .ensures, c .canonical323 .ensures)
-    ∙ sym (ap ofFound (c .before .before .before .before .f .given .1))
+returns c = sym (ap ofFound (c .before .f .given .1))
 
 returns-2 : tie.Need-returns-2
 returns-2 c = sym (ap ofFound (c .before .f2 .given .1))
 
 pub of-found-spec : {M : Type 1} → statement M
-of-found-spec =
-    tie.close
-    (tie.spec
-    enum-known-f
-    canonical32-requires
-    canonical32-requires-2
-    canonical32-requires-3
-    enum-known-f-2
-    returns
-    returns-2)
+of-found-spec = tie.close (tie.spec enum-known-f enum-known-f-2 returns returns-2)
