@@ -172,27 +172,6 @@ fn lengths() {
     );
 }
 
-// 0: 5,075 empty peptides in 4 files, which need 20,300 cells; the shares of an empty peptide are NaN, so the mobility
-// fit is 9. 3: one peptide more.
-fn large() {
-    let zero = [0u32];
-    let offsets = [0u32; 5077];
-    let masses = [0.0f32; 5076];
-    let logs = [0.0f64; 5076];
-    run(
-        &zero,
-        0,
-        1,
-        4,
-        b"",
-        &offsets[..5076],
-        &masses[..5075],
-        &logs[..5075],
-        20300,
-    );
-    run(&zero, 0, 1, 4, b"", &offsets, &masses, &logs, 20300);
-}
-
 // 2: no file; 1,025 files, for which the room is too short as well. 3: a workspace a cell too short; with offsets past
 // the letters, which is 7 too, and with file 2 of 2, which is 4 too; outputs too short for 5 files; 1,024 files, which
 // are within the limits.
@@ -227,7 +206,6 @@ fn numbers() {
 
 pub(crate) fn calls() {
     accepted();
-    large();
     lengths();
     limits();
     offsets();

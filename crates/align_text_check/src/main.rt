@@ -1,4 +1,7 @@
-// Calls of the align program's text, with outputs that it fits and outputs that it does not.
+// Calls `align_text` with outputs that its answer fits and outputs that it does not, and writes for each call, a line
+// each, its number, how many bytes it says it wrote, and how many bytes of the output changed. What it must write, in
+// `stdout`, was worked out by hand from document 01: a text's own number comes before 3, and its line is written where
+// it fits.
 ghost use Prim.Native.Nat.{_≤_};
 use align_text::TextAnswer;
 
@@ -72,7 +75,7 @@ fn accepted() {
     text(input, 0);
 }
 
-pub(crate) fn calls() {
+fn main() {
     malformed();
     limits();
     numbers();

@@ -1,8 +1,8 @@
--- `refusal_check::texts::changed` is safe and ends.
+-- `align_text_check::changed` is safe and ends.
 use Prim.Native.Nat.{_-_, _≤_}
 use borrow.Author.Needs.{needs}
-use Rattle.refusal_check.proofs.texts.changed.Statement.{statement}
-use Rattle.refusal_check.proofs.texts.changed.Tie as tie
+use Rattle.align_text_check.proofs.changed.Statement.{statement}
+use Rattle.align_text_check.proofs.changed.Tie as tie
 
 abbrev Inv-loop : tie.InvT-loop
 Inv-loop bytes count₀ i₀ count i = i ≤ 128

@@ -1,15 +1,21 @@
--- `refusal_check::texts::text` is safe: the part lent is a front of an array.
+-- `align_text_check::text` is safe: the part lent is a front of an array.
+use mathlib.Core.Path.{sym}
+use mathlib.Core.List.{List}
+use Prim.Native.Nat.{ℕ}
 use native.Mathlib.Omega.{arith}
+use lib.ListN.{replicate, length-replicate}
+use lib.Seq.{length-take-le}
 use borrow.Author.Needs.{needs}
-use Rattle.refusal_check.proofs.Parts.{part}
-use Rattle.refusal_check.proofs.texts.text.Statement.{statement}
-use Rattle.refusal_check.proofs.texts.text.Tie as tie
+use Rattle.align_text_check.proofs.text.Statement.{statement}
+use Rattle.align_text_check.proofs.text.Tie as tie
 
 array-borrow-prefix-output : tie.Need-array-borrow-prefix-output
 array-borrow-prefix-output c = search needs
 
 slice-aggregate-align-text : tie.Need-slice-aggregate-align-text
-slice-aggregate-align-text c = part _ 128 _ (omega arith)
+slice-aggregate-align-text c =
+    let held : List ℕ = replicate 128 42 in
+    sym (length-take-le _ held (omega (arith, length-replicate {A = ℕ} 128 42)))
 
 align-text-requires : tie.Need-align-text-requires
 align-text-requires c κs = search needs
