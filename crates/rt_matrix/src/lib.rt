@@ -37,7 +37,7 @@ fn finite_or(x: f64, d: f64) -> f64
 }
 
 // The record of a file with the longest time max, from the sums over its points: the intercept from the raw slope. The one place that
-// makes a record.
+// works a record out.
 fn fit_line(max: u32, s: Sums, sx2: f64) -> Alignment
     ensures { λ r. ⌜ r ≡ lineOf max (s .len) (s .dot) (s .«sum_x») (s .«sum_y») sx2 ⌝ }
 {
