@@ -19,6 +19,98 @@ fn number(answer: FitAnswer) -> u64 {
     }
 }
 
+// A call of retention's `predict` or `fit`.
+fn retention(
+    predicts: bool,
+    peptide: &[u32],
+    label: &[i32],
+    letters: &[u8],
+    offsets: &[u32],
+    masses: &[f32],
+    logs: &[f64],
+    workspace: &mut [f64],
+    beta: &mut [f64],
+    predicted: &mut [f32],
+    error: &mut [f32],
+) -> FitAnswer {
+    let q = [0.0f32];
+    let y = [0.5f32];
+    if predicts {
+        return retention_model::predict(
+            peptide,
+            label,
+            &q,
+            &y,
+            letters,
+            offsets,
+            masses,
+            logs,
+            workspace,
+            beta,
+            predicted,
+            error,
+        );
+    }
+    retention_model::fit(
+        peptide,
+        label,
+        &q,
+        &y,
+        letters,
+        offsets,
+        masses,
+        logs,
+        workspace,
+        beta,
+    )
+}
+
+// A call of mobility's `predict` or `fit`.
+fn mobility(
+    predicts: bool,
+    peptide: &[u32],
+    label: &[i32],
+    letters: &[u8],
+    offsets: &[u32],
+    masses: &[f32],
+    workspace: &mut [f64],
+    beta: &mut [f64],
+    predicted: &mut [f32],
+    error: &mut [f32],
+) -> FitAnswer {
+    let q = [0.0f32];
+    let z = [1u8];
+    let y = [0.5f32];
+    if predicts {
+        return mobility_model::predict(
+            peptide,
+            label,
+            &q,
+            &z,
+            &y,
+            letters,
+            offsets,
+            masses,
+            workspace,
+            beta,
+            predicted,
+            error,
+        );
+    }
+    mobility_model::fit(
+        peptide,
+        label,
+        &q,
+        &z,
+        &y,
+        letters,
+        offsets,
+        masses,
+        workspace,
+        beta,
+    )
+}
+
 // A call of a model's `predict` or `fit`.
 fn call(
     model: Model,
@@ -34,70 +126,32 @@ fn call(
     predicted: &mut [f32],
     error: &mut [f32],
 ) -> FitAnswer {
-    let q = [0.0f32];
-    let z = [1u8];
-    let y = [0.5f32];
     match model {
-        Model::Retention => {
-            if predicts {
-                return retention_model::predict(
-                    peptide,
-                    label,
-                    &q,
-                    &y,
-                    letters,
-                    offsets,
-                    masses,
-                    logs,
-                    workspace,
-                    beta,
-                    predicted,
-                    error,
-                );
-            }
-            retention_model::fit(
-                peptide,
-                label,
-                &q,
-                &y,
-                letters,
-                offsets,
-                masses,
-                logs,
-                workspace,
-                beta,
-            )
-        }
-        Model::Mobility => {
-            if predicts {
-                return mobility_model::predict(
-                    peptide,
-                    label,
-                    &q,
-                    &z,
-                    &y,
-                    letters,
-                    offsets,
-                    masses,
-                    workspace,
-                    beta,
-                    predicted,
-                    error,
-                );
-            }
-            mobility_model::fit(
-                peptide,
-                label,
-                &q,
-                &z,
-                &y,
-                letters,
-                offsets,
-                masses,
-                workspace,
-                beta,
-            )
-        }
+        Model::Retention => retention(
+            predicts,
+            peptide,
+            label,
+            letters,
+            offsets,
+            masses,
+            logs,
+            workspace,
+            beta,
+            predicted,
+            error,
+        ),
+        Model::Mobility => mobility(
+            predicts,
+            peptide,
+            label,
+            letters,
+            offsets,
+            masses,
+            workspace,
+            beta,
+            predicted,
+            error,
+        ),
     }
 }
 
