@@ -11,9 +11,10 @@ use lib.ListN.{length, take, length-map}
 use lib.Seq.{take-at}
 use lib.Ieee.{Float}
 use borrow.Author.Tests.{le-leb, eq-eqb, eqb-true}
-use Rattle.feature.specs.Checks as Checks
-use Rattle.feature.specs.Checks.{every, allBelow, lengthsAgree}
-use Rattle.feature.specs.Status.{accepted}
+use Rattle.params.specs.Slice.{change}
+use Rattle.status.specs.Limits as Limits
+use Rattle.status.specs.Checks.{every, allBelow, lengthsAgree}
+use Rattle.status.specs.Status.{accepted}
 use Rattle.rt_matrix.specs.Line.{lines}
 use Rattle.rt_matrix.specs.declared.Alignment.{Alignment}
 use Rattle.matrix.proofs.Lists.{length-tabulate}
@@ -67,7 +68,7 @@ module _ (i : Input) (out : List ℕ) (d : Ready i out) where
     cells : i .peptides * i .files ≤ 512
     cells = mul-le-mul (d .peptides) (d .files)
 
-    within : Checks.withinLimits (i .files) (length (i .file)) (i .peptides) ≡ true
+    within : Limits.withinLimits (i .files) (length (i .file)) (i .peptides) ≡ true
     within =
         simp (
           le-leb 1 _ (d .some-files),
@@ -91,11 +92,11 @@ module _ (i : Input) (out : List ℕ) (d : Ready i out) where
     status-is : status i s ≡ columnsStatus i
     unfolding statusOf firstFailed columnsStatus
     status-is =
-        ap (λ (x : Bool). firstFailed x (Checks.withinLimits (i .files) (length (i .file)) (i .peptides)) (longEnough (i .peptides * i .files) (i .files) (length (i .file)) (length (s .workspace)) (length (s .maxRt)) (length (s .slope)) (length (s .intercept)) (length (s .aligned))) (allBelow (i .files) (i .file)) (allBelow (i .peptides) (i .peptide))) lengths-agree
+        ap (λ (x : Bool). firstFailed x (Limits.withinLimits (i .files) (length (i .file)) (i .peptides)) (longEnough (i .peptides * i .files) (i .files) (length (i .file)) (length (s .workspace)) (length (s .maxRt)) (length (s .slope)) (length (s .intercept)) (length (s .aligned))) (allBelow (i .files) (i .file)) (allBelow (i .peptides) (i .peptide))) lengths-agree
         ∙ ap (λ (x : Bool). firstFailed true x (longEnough (i .peptides * i .files) (i .files) (length (i .file)) (length (s .workspace)) (length (s .maxRt)) (length (s .slope)) (length (s .intercept)) (length (s .aligned))) (allBelow (i .files) (i .file)) (allBelow (i .peptides) (i .peptide))) within
         ∙ ap (λ (x : Bool). firstFailed true true x (allBelow (i .files) (i .file)) (allBelow (i .peptides) (i .peptide))) long
 
-  module _ (s t : Slices) (r : AlignAnswer) (w : Aligned i s t r) (room : Roomy s) where
+  module _ (s t : Slices) (r : AlignAnswer) (w : Aligned i (change s t) r) (room : Roomy s) where
     answer-is : r ≡ answerOf (columnsStatus i)
     answer-is = w .answer ∙ ap answerOf (status-is s room)
 
@@ -113,9 +114,11 @@ module _ (i : Input) (out : List ℕ) (d : Ready i out) where
       text-is : columnsText i ≡ alignmentText i
       text-is = columns-text i ∙ ap (λ (b : Bool). cond b (alignmentText i) (statusText (columnsStatus i))) passed
 
-      filled-is : slicesAfter i s ≡ filled i s
+      after-is : t ≡ filled i s
       unfolding slicesAfter
-      filled-is = ap (λ (b : Bool). cond b (filled i s) s) (ap (λ (n : ℕ). eqb n accepted) (status-is s room) ∙ passed)
+      after-is =
+          w .slices
+          ∙ ap (λ (b : Bool). cond b (filled i s) s) (ap (λ (n : ℕ). eqb n accepted) (status-is s room) ∙ passed)
 
       field : (f : Alignment → Float) (old : List Float) → take (i .files) (overwritten (map f (recordsFor i)) old) ≡ map f (recordsFor i)
       field f old = take-at (map f (recordsFor i)) _ (i .files) (length-map (recordsFor i) f ∙ records-long i)
@@ -125,19 +128,19 @@ module _ (i : Input) (out : List ℕ) (d : Ready i out) where
 
       max-rts : take (i .files) (t .maxRt) ≡ map (λ (a : Alignment). a .«max_rt») (recordsFor i)
       unfolding filled
-      max-rts = ap (take (i .files)) (w .maxRt ∙ ap (λ (x : Slices). x .maxRt) filled-is) ∙ field (λ a. a .«max_rt») (s .maxRt)
+      max-rts = ap (take (i .files)) (ap (λ (x : Slices). x .maxRt) after-is) ∙ field (λ a. a .«max_rt») (s .maxRt)
 
       slopes : take (i .files) (t .slope) ≡ map (λ (a : Alignment). a .slope) (recordsFor i)
       unfolding filled
-      slopes = ap (take (i .files)) (w .slope ∙ ap (λ (x : Slices). x .slope) filled-is) ∙ field (λ a. a .slope) (s .slope)
+      slopes = ap (take (i .files)) (ap (λ (x : Slices). x .slope) after-is) ∙ field (λ a. a .slope) (s .slope)
 
       intercepts : take (i .files) (t .intercept) ≡ map (λ (a : Alignment). a .intercept) (recordsFor i)
       unfolding filled
-      intercepts = ap (take (i .files)) (w .intercept ∙ ap (λ (x : Slices). x .intercept) filled-is) ∙ field (λ a. a .intercept) (s .intercept)
+      intercepts = ap (take (i .files)) (ap (λ (x : Slices). x .intercept) after-is) ∙ field (λ a. a .intercept) (s .intercept)
 
       times : take (length (i .file)) (t .aligned) ≡ map (aligned (recordsFor i)) (rows i)
       unfolding filled
-      times = ap (take (length (i .file))) (w .aligned ∙ ap (λ (x : Slices). x .aligned) filled-is) ∙ take-at (map (aligned (recordsFor i)) (rows i)) _ (length (i .file)) times-long
+      times = ap (take (length (i .file))) (ap (λ (x : Slices). x .aligned) after-is) ∙ take-at (map (aligned (recordsFor i)) (rows i)) _ (length (i .file)) times-long
 
       -- the number, and what is written of the outputs is the definition's text
       pub accepted-is : (accepted ≡ columnsStatus i)

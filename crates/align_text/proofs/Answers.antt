@@ -12,8 +12,8 @@ use lib.Seq.{sets, length-sets, sets-eq, take-at}
 use lib.Ieee.{Float}
 use borrow.Author.Tests.{leb-true}
 use Rattle.text.specs.Answer.{Wrote}
-use Rattle.feature.proofs.Laws.{and-true}
-use Rattle.feature.specs.Status.{malformed, pastLimit}
+use Rattle.status.proofs.Laws.{and-true}
+use Rattle.status.specs.Status.{malformed, pastLimit}
 use Rattle.retention_alignment.specs.Call as Call
 use Rattle.align_input.specs.declared.TextRow.{TextRow}
 use Rattle.align_input.specs.declared.InputRead.the-variants as IR

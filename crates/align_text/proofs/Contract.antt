@@ -10,7 +10,7 @@ use lib.ListN.{length, take, drop}
 use lib.Seq.{sets, sets-eq, take-at}
 use borrow.Author.Tests.{le-leb, lt-leb, leb-true, eqb-true, eq-eqb, ne-eqb}
 use Rattle.matrix.specs.Lists.{overwritten}
-use Rattle.feature.specs.Status.{accepted, tooShort, firstFailing}
+use Rattle.status.specs.Status.{accepted, tooShort, firstFailing}
 use Rattle.align_output.specs.Output.{statusText}
 use Rattle.align_text.specs.declared.TextAnswer.{TextAnswer}
 use Rattle.align_text.specs.declared.TextAnswer.the-variants.{Accepted, Refused}

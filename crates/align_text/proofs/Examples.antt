@@ -10,7 +10,7 @@ use Rattle.float.specs.Hex.{hexDigit, hexOf, digitValue, allHex, hexValue, read
 use Rattle.text.specs.Ascii.{ascii}
 use Rattle.text.specs.Decimal.{decimalOnto, decimalOf, isDigit, readFrom, readDecimal, negative, nonNegative, readSigned}
 use Rattle.text.specs.Line.{lineOf, startsWith, keyed, firstLine, readHexDigits, decimalLine, signedLine, hexLine}
-use Rattle.feature.specs.Checks.{every}
+use Rattle.status.specs.Checks.{every}
 use Rattle.feature.specs.Feature.{trains, mask, kept}
 use Rattle.rt_matrix.specs.Line as RL
 use Rattle.matrix.specs.Lists.{tabulate}

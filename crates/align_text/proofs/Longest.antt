@@ -8,8 +8,8 @@ use native.Mathlib.Omega.{arith}
 use lib.ListN.{length, length-map}
 use borrow.Author.Tests.{le-leb}
 use Rattle.matrix.specs.Lists.{overwritten}
-use Rattle.feature.specs.Checks.{allBelow}
-use Rattle.feature.specs.Status.{badFile, badPeptide}
+use Rattle.status.specs.Checks.{allBelow}
+use Rattle.status.specs.Status.{badFile, badPeptide}
 use Rattle.rt_matrix.specs.declared.Alignment.{Alignment}
 use Rattle.retention_alignment.specs.Alignments.{aligned}
 use Rattle.retention_alignment.specs.Call as Call

@@ -9,8 +9,8 @@ use native.Mathlib.Omega.{arith}
 use lib.Dec.{eqb}
 use lib.ListN.{length}
 use borrow.Author.Tests.{eqb-true}
-use Rattle.feature.specs.Checks.{allBelow}
-use Rattle.feature.specs.Status.{accepted, pastLimit, badFile, badPeptide, firstFailing}
+use Rattle.status.specs.Checks.{allBelow}
+use Rattle.status.specs.Status.{accepted, pastLimit, badFile, badPeptide, firstFailing}
 use Rattle.retention_alignment.specs.Call as Call
 use Rattle.align_input.specs.Input.{Input}
 use Rattle.align_input.specs.Parse.{parse}

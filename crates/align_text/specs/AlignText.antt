@@ -7,8 +7,8 @@ use mathlib.Core.Option.{Option, none, some}
 use lib.Dec.{eqb, leb}
 use lib.ListN.{length}
 use Rattle.matrix.specs.Lists.{overwritten}
-use Rattle.feature.specs.Checks.{allBelow}
-use Rattle.feature.specs.Status.{accepted, malformed, pastLimit, tooShort, badFile, badPeptide, firstFailing}
+use Rattle.status.specs.Checks.{allBelow}
+use Rattle.status.specs.Status.{accepted, malformed, pastLimit, tooShort, badFile, badPeptide, firstFailing}
 use Rattle.rt_matrix.specs.declared.Alignment.{Alignment}
 use Rattle.retention_alignment.specs.Alignments.{aligned}
 use Rattle.retention_alignment.specs.Call as Call

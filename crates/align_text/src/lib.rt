@@ -139,7 +139,7 @@ fn answer_rows(
             &aligned[..rows],
         );
         return Buffered {
-            status: feature::ACCEPTED,
+            status: status::ACCEPTED,
             length,
         };
     };
@@ -162,10 +162,10 @@ fn answer_text(input: &[u8], out: &mut [u8]) -> Buffered
         rows,
     } = align_input::read_input(input, &mut file, &mut peptide, &mut label, &mut q, &mut rt)
     else {
-        return refuse(feature::MALFORMED, out);
+        return refuse(status::MALFORMED, out);
     };
     if !limits(files, peptides, rows) {
-        return refuse(feature::PAST_LIMIT, out);
+        return refuse(status::PAST_LIMIT, out);
     }
     answer_rows(
         &file[..rows],
@@ -189,16 +189,16 @@ pub fn align_text(input: &[u8], output: &mut [u8]) -> TextAnswer
     let status = answer.status;
     let n = answer.length;
     if output.len() < n {
-        if status == feature::ACCEPTED {
+        if status == status::ACCEPTED {
             return TextAnswer::Refused {
-                status: feature::TOO_SHORT,
+                status: status::TOO_SHORT,
                 written: 0,
             };
         }
         return TextAnswer::Refused { status, written: 0 };
     }
     text::write_bytes(output, 0, &buffer[..n]);
-    if status == feature::ACCEPTED {
+    if status == status::ACCEPTED {
         return TextAnswer::Accepted(n);
     }
     TextAnswer::Refused { status, written: n }

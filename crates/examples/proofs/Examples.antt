@@ -7,7 +7,7 @@ use Rattle.float.specs.Convert.{narrowed, ceiling}
 use Rattle.float.specs.Value.{isFinite, isNormal}
 use Rattle.mass.specs.Mass.{columnOf, placeFrom, validAa}
 use Rattle.matrix.specs.Rows.{rowsOf, flat}
-use Rattle.feature.specs.Checks.{every}
+use Rattle.status.specs.Checks.{every}
 use Rattle.feature.specs.Feature.{trains, mask, kept}
 use Rattle.matrix.specs.Lists.{zipped, tabulate}
 use Rattle.elimination.specs.Rows.{indexed, augmented}

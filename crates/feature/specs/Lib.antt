@@ -1,3 +1,1 @@
 pub mod Feature
-pub mod Checks
-pub mod Status

@@ -6,6 +6,8 @@ use Prim.Native.Nat.{ℕ, zero, suc, _+_, _*_, _≤_}
 use lib.ListN.{length, replicate}
 use lib.Dec.{leb, eqb}
 use lib.Ieee.{Float, nan}
+use denote.Ref.{now}
+use Rattle.params.specs.Slice.{Held, Change, change, Slice}
 use Rattle.matrix.specs.Rows.{rowsOf}
 use Rattle.float.specs.Number.{zero64}
 use Rattle.matrix.specs.Lists.{overwritten}
@@ -13,6 +15,36 @@ use Rattle.elimination.specs.Rows.{augmented}
 use Rattle.elimination.specs.Ridge.{ridges, Solution, solved, unsolved, firstSolved, written}
 use Rattle.gauss.specs.declared.SolveAnswer.{SolveAnswer}
 use Rattle.gauss.specs.declared.SolveAnswer.the-variants.{Solved, Unsolved, Refused}
+
+-- what is read: the two sides, the order and the number of right columns
+pub record System : Type 0 where
+  pub left : List Float
+  pub right : List Float
+  pub n : ℕ
+  pub c : ℕ
+
+-- what is written
+pub record Slices : Type 0 where
+  pub workspace : List Float
+  pub solution : List Float
+
+-- ---- as a function's parameters hold them
+
+-- in a `requires`
+abbrev pub systemAt : (left right : Held Float) (n c : ℕ) → System
+systemAt left right n c = record { left = now left; right = now right; n = n; c = c }
+
+abbrev pub slicesAt : (workspace solution : Held Float) → Slices
+slicesAt workspace solution = record { workspace = now workspace; solution = now solution }
+
+-- in an `ensures`: what is read as the call begins, and what is written as it begins and as it returns
+abbrev pub systemOf : (left right : Slice Float) (n c : ℕ) → System
+systemOf left right n c = systemAt (left .entry) (right .entry) n c
+
+abbrev pub slicesOf : (workspace solution : Slice Float) → Change Slices
+slicesOf workspace solution = change (slicesAt (workspace .entry) (solution .entry)) (slicesAt (workspace .exit) (solution .exit))
+
+-- ---- the answer
 
 -- the number of document 01's table for each answer
 abbrev pub statusOf : SolveAnswer → ℕ
@@ -81,33 +113,43 @@ ridgeFor zero (solved ridge cells) = ridge ∷ []
 ridgeFor zero unsolved = []
 ridgeFor (suc k) s = []
 
--- ---- the contract of `solve`: what it was passed, what it answered, and the two slices after the call
+-- ---- the contract of `solve`
 
-pub record Solves (left right : List Float) (n c : ℕ) (workspace₀ solution₀ : List Float) (r : SolveAnswer) (workspace₁ solution₁ : List Float) : Type 0 where
-  pub answer : r ≡ answerOf (checked (length left) (length right) n c (length workspace₀) (length solution₀)) (solutionOf n c left right)
-  pub status : statusOf r ≡ statusFor (checked (length left) (length right) n c (length workspace₀) (length solution₀)) (solutionOf n c left right)
-  pub ridge : ridgeOf r ≡ ridgeFor (checked (length left) (length right) n c (length workspace₀) (length solution₀)) (solutionOf n c left right)
-  pub workspace : workspace₁
-      ≡ workspaceAfter (checked (length left) (length right) n c (length workspace₀) (length solution₀)) (needed n c) workspace₀
-  pub solution : solution₁
-      ≡ solutionAfter
-      (checked (length left) (length right) n c (length workspace₀) (length solution₀))
-      (solutionOf n c left right)
-      solution₀
+-- the check that fails, by its number, or 0
+abbrev pub status : System → Slices → ℕ
+status i s = checked (length (i .left)) (length (i .right)) (i .n) (i .c) (length (s .workspace)) (length (s .solution))
+
+abbrev pub solutionFor : System → Solution
+solutionFor i = solutionOf (i .n) (i .c) (i .left) (i .right)
+
+-- what a call leaves
+abbrev pub slicesAfter : System → Slices → Slices
+slicesAfter i s =
+    record {
+      workspace = workspaceAfter (status i s) (needed (i .n) (i .c)) (s .workspace);
+      solution = solutionAfter (status i s) (solutionFor i) (s .solution);
+    }
+
+-- the answer, its number and its ridge, and both slices, each cell of them
+pub record Solves (i : System) (s : Change Slices) (r : SolveAnswer) : Type 0 where
+  pub answer : r ≡ answerOf (status i (s .entry)) (solutionFor i)
+  pub number : statusOf r ≡ statusFor (status i (s .entry)) (solutionFor i)
+  pub ridge : ridgeOf r ≡ ridgeFor (status i (s .entry)) (solutionFor i)
+  pub slices : s .exit ≡ slicesAfter i (s .entry)
 
 -- ---- of what stands behind it
 
 -- sides and slices of the right lengths, within the limits
-pub record Accepted (left right : List Float) (n c : ℕ) (cells solution : List Float) : Type 0 where
-  pub order : n ≤ 100
-  pub columns : c ≤ 8
-  pub leftCount : length left ≡ n * n
-  pub rightCount : length right ≡ n * c
-  pub cellCount : length cells ≡ n * (n + c)
-  pub solutionCount : length solution ≡ n * c
+pub record Accepted (i : System) (s : Slices) : Type 0 where
+  pub order : i .n ≤ 100
+  pub columns : i .c ≤ 8
+  pub leftCount : length (i .left) ≡ i .n * i .n
+  pub rightCount : length (i .right) ≡ i .n * i .c
+  pub cellCount : length (s .workspace) ≡ i .n * (i .n + i .c)
+  pub solutionCount : length (s .solution) ≡ i .n * i .c
 
 -- the first ridge that solves it is the answer, the workspace ends as +0.0
-pub record Searched (s : Solution) (r : SolveAnswer) (cells₀ cells₁ solution₀ solution₁ : List Float) : Type 0 where
-  pub answer : r ≡ answerOf 0 s
-  pub cells : cells₁ ≡ replicate (length cells₀) zero64
-  pub solution : solution₁ ≡ written s solution₀
+pub record Searched (i : System) (s : Change Slices) (r : SolveAnswer) : Type 0 where
+  pub answer : r ≡ answerOf 0 (solutionFor i)
+  pub cells : s .exit .workspace ≡ replicate (length (s .entry .workspace)) zero64
+  pub solution : s .exit .solution ≡ written (solutionFor i) (s .entry .solution)

@@ -1,5 +1,5 @@
 // Gauss::solve of gauss.rs: Gauss-Jordan elimination with a rising ridge.
-ghost use Rattle.gauss.specs.Solve.{solutionOf, Solves, Accepted, Searched};
+ghost use Rattle.gauss.specs.Solve.{systemAt, systemOf, slicesAt, slicesOf, Solves, Accepted, Searched};
 
 mod limits;
 
@@ -19,8 +19,8 @@ fn first_solved(
     cells: &mut [f64],
     solution: &mut [f64],
 ) -> SolveAnswer
-    requires { ⌜ Accepted (now left) (now right) n c (now cells) (now solution) ⌝ }
-    ensures { λ r. ⌜ Searched (solutionOf n c (now (left .entry)) (now (right .entry))) r (now (cells .entry)) (now (cells .exit)) (now (solution .entry)) (now (solution .exit)) ⌝ }
+    requires { ⌜ Accepted (systemAt left right n c) (slicesAt cells solution) ⌝ }
+    ensures { λ r. ⌜ Searched (systemOf left right n c) (slicesOf cells solution) r ⌝ }
 {
     let mut eps = 1E-8;
     while eps <= 1.0 {
@@ -46,7 +46,7 @@ pub fn solve(
     workspace: &mut [f64],
     solution: &mut [f64],
 ) -> SolveAnswer
-    ensures { λ r. ⌜ Solves (now (left .entry)) (now (right .entry)) n c (now (workspace .entry)) (now (solution .entry)) r (now (workspace .exit)) (now (solution .exit)) ⌝ }
+    ensures { λ r. ⌜ Solves (systemOf left right n c) (slicesOf workspace solution) r ⌝ }
 {
     let status = limits::check(
         left.len(),

@@ -1,15 +1,16 @@
 -- Laws of the status: its value by the values of the checks, and what a call that is accepted has passed.
 use mathlib.Core.Path.{_≡_, refl}
-use mathlib.Core.Bool.{Bool, true, false, cond}
+use mathlib.Core.Bool.{Bool, true}
 use mathlib.Core.List.{List, [], _∷_}
 use Prim.Native.Nat.{ℕ, _<_}
 use native.Mathlib.Omega.{arith}
-use lib.Dec.{eqb, ltb}
+use lib.Dec.{eqb}
 use lib.ListN.{length, getD}
-use borrow.Author.Tests.{ltb-true}
-use Rattle.feature.specs.Checks.{every, lengthsAgree, withinRowLimits, allBelow}
-use Rattle.feature.specs.Status.{accepted, badLengths, pastLimit, tooShort, badFile, badPeptide, firstFailing}
-use Rattle.feature.proofs.Laws.{and-true, every-at, below-at, length-at, row-limits}
+use Rattle.status.specs.Checks.{every, lengthsAgree, allBelow}
+use Rattle.status.specs.Limits.{withinRowLimits}
+use Rattle.status.specs.Status.{accepted, badLengths, pastLimit, tooShort, badFile, badPeptide, firstFailing}
+use Rattle.status.proofs.Laws.{and-true, below-at, length-at, row-limits}
+use Rattle.status.proofs.First.{passed-at}
 use Rattle.peptide.specs.Table.{Table, tableStatus}
 use Rattle.peptide.proofs.Laws.{table-first, offsets-peptide}
 use Rattle.embedding.specs.declared.Model.{Model}
@@ -27,19 +28,6 @@ pub status-is : (model : Model) (i : Input) (room : Bool) (a b : Bool) (t : ℕ)
 unfolding statusOf
 status-is model i room a b t f one two table five =
     rw (one, two, table, five, table-first (i .table .letters) (i .table .offsets) (length (i .table .masses)) ((badPeptide, allBelow (length (i .table .masses)) (i .peptides)) ∷ []))
-
--- where no check fails, each passed
-passed : (b : Bool) (later status : ℕ) → 0 < status → cond b later status ≡ 0 → (b ≡ true) × (later ≡ 0)
-passed true later status h e = (refl, e)
-passed false later status h e = absurd (omega arith)
-
-pub passed-all : (cs : List (ℕ × Bool)) → every (λ (c : ℕ × Bool). ltb 0 (c .0)) cs ≡ true → firstFailing cs ≡ accepted → every (λ (c : ℕ × Bool). c .1) cs ≡ true
-unfolding every
-passed-all [] n e = refl
-passed-all (c ∷ cs) n e =
-    let s = and-true (ltb 0 (c .0)) (every (λ (c : ℕ × Bool). ltb 0 (c .0)) cs) n in
-    let t = passed (c .1) (firstFailing cs) (c .0) (ltb-true 0 (c .0) (s .0)) e in
-    rw (t .0) (passed-all cs (s .1) (t .1))
 
 -- the columns' lengths
 record Long (i : Input) : Type 0 where
@@ -63,7 +51,7 @@ long Mobility i e =
 module _ (model : Model) (i : Input) (room : Bool) (accept : statusOf model i room ≡ accepted) where
   check-at : (k : ℕ) → k < 6 → getD (checks model i room) k (0, true) .1 ≡ true
   unfolding statusOf every
-  check-at k h = every-at (λ (c : ℕ × Bool). c .1) (checks model i room) k (0, true) (passed-all (checks model i room) refl accept) h
+  check-at k h = passed-at (checks model i room) k refl accept h
 
   pub accepted-room : room ≡ true
   accepted-room = check-at 2 (omega arith)

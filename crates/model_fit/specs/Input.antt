@@ -6,8 +6,9 @@ use lib.Dec.{leb}
 use lib.IntN.{ℤ}
 use lib.Ieee.{Float}
 use lib.ListN.{length}
-use Rattle.feature.specs.Checks.{lengthsAgree, withinRowLimits, allBelow}
-use Rattle.feature.specs.Status.{badLengths, pastLimit, tooShort, badOffsets, badLetter, badPeptide, firstFailing}
+use Rattle.status.specs.Checks.{lengthsAgree, allBelow}
+use Rattle.status.specs.Limits.{withinRowLimits}
+use Rattle.status.specs.Status.{badLengths, pastLimit, tooShort, badOffsets, badLetter, badPeptide, firstFailing}
 use Rattle.peptide.specs.Table.{Table, offsetsRight, lettersRight}
 use Rattle.embedding.specs.Design.{orderOf}
 use Rattle.embedding.specs.declared.Model.{Model}

@@ -8,7 +8,8 @@ use lib.ListN.{length, replicate, take, drop}
 use Rattle.float.specs.Number.{zero64}
 use Rattle.matrix.specs.Rows.{flat}
 use Rattle.matrix.specs.Lists.{overwritten}
-use Rattle.feature.specs.Checks.{allBelow, maxRows}
+use Rattle.status.specs.Checks.{allBelow}
+use Rattle.status.specs.Limits.{maxRows}
 use Rattle.peptide.specs.Table.{Table, HasPeptide, offsetsRight}
 use Rattle.embedding.specs.Design.{orderOf}
 use Rattle.embedding.specs.declared.Model.{Model}

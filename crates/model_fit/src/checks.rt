@@ -1,8 +1,5 @@
 // The checks of a call, in document 01's order, for both models and for fits and predictions.
 ghost use mathlib.Core.Path.{_≡_};
-ghost use mathlib.Core.List.{[], _∷_};
-ghost use lib.Dec.{eqb};
-ghost use Rattle.feature.specs.Status.{accepted, badLengths, pastLimit, tooShort, badFile, badPeptide, firstFailing};
 ghost use Rattle.embedding.specs.Design.{orderOf};
 ghost use Rattle.model_fit.specs.Input.{inputOf, columnsAgree, fitRoom, workspaceCells, statusOf};
 use embedding::Model;
@@ -42,53 +39,13 @@ fn columns_agree(
 {
     match model {
         Model::Retention => {
-            if !feature::same_lengths(rows, labels, qs, observed, rows) {
+            if !status::same_lengths(rows, labels, qs, observed, rows) {
                 return false;
             }
             logs == peptides
         }
-        Model::Mobility => feature::same_lengths(rows, labels, qs, charges, observed),
+        Model::Mobility => status::same_lengths(rows, labels, qs, charges, observed),
     }
-}
-
-// The status of the first check that fails, `table` being the peptide table's own. A call without files passes true for them.
-pub fn first_failing(
-    lengths: bool,
-    limits: bool,
-    room: bool,
-    table: u8,
-    files: bool,
-    peptides: bool,
-) -> u8
-    ensures { λ r. ⌜ r ≡ firstFailing
-        ((badLengths, lengths)
-        ∷ (pastLimit, limits)
-        ∷ (tooShort, room)
-        ∷ (table, eqb table accepted)
-        ∷ (badFile, files)
-        ∷ (badPeptide, peptides)
-        ∷ []) ⌝ }
-{
-    let table_right = table == feature::ACCEPTED;
-    if !lengths {
-        return feature::BAD_LENGTHS;
-    }
-    if !limits {
-        return feature::PAST_LIMIT;
-    }
-    if !room {
-        return feature::TOO_SHORT;
-    }
-    if !table_right {
-        return table;
-    }
-    if !files {
-        return feature::BAD_FILE;
-    }
-    if !peptides {
-        return feature::BAD_PEPTIDE;
-    }
-    feature::ACCEPTED
 }
 
 // The status of a call: 1, 2, 3 (not `room`), 7, 6, 5 or 0. Each check goes over the whole input, and the first that fails is answered.
@@ -119,8 +76,8 @@ pub fn check(
         peptides,
         logs.len(),
     );
-    let limits = feature::row_limits(rows, peptides);
+    let limits = status::row_limits(rows, peptides);
     let table = peptide::check_table(letters, offsets, peptides);
-    let peptides_right = feature::all_below(peptide, peptides);
-    first_failing(lengths, limits, room, table, true, peptides_right)
+    let peptides_right = status::all_below(peptide, peptides);
+    status::first_failing(lengths, limits, room, table, true, peptides_right)
 }

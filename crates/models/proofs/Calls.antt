@@ -9,9 +9,10 @@ use lib.Ieee.{Float}
 use lib.ListN.{length, take, drop, replicate, length-append, length-drop, length-replicate}
 use lib.Seq.{length-take-le, take-at}
 use borrow.Author.Tests.{leb-true, ne-eqb}
+use Rattle.params.specs.Slice.{change}
 use Rattle.float.specs.Number.{zero64}
-use Rattle.feature.specs.Status.{accepted}
-use Rattle.feature.proofs.Laws.{and-true}
+use Rattle.status.specs.Status.{accepted}
+use Rattle.status.proofs.Laws.{and-true}
 use Rattle.embedding.specs.Design.{orderOf}
 use Rattle.embedding.specs.declared.Model.{Model}
 use Rattle.embedding.specs.declared.Model.the-variants.{Retention, Mobility}
@@ -27,7 +28,7 @@ use Rattle.matrix.proofs.Lists.{overwrite-part, zipWith-append, zipWith-none}
 use Rattle.models.specs.declared.FitAnswer.{FitAnswer}
 use Rattle.models.specs.declared.FitAnswer.the-variants.{Fitted, Refused}
 use Rattle.models.specs.Prediction.{isSolved, predictionOf, errorOf, predictions, errors}
-use Rattle.models.specs.Call.{answerStatus, answerValues, ifAccepted, answerOf, statusFor, valuesFor, predictRoom, fitStatus, predictStatus, FittedWithin, PredictedWithin, FitCall, PredictCall}
+use Rattle.models.specs.Call.{FitSlices, PredictSlices, answerStatus, answerValues, ifAccepted, answerOf, statusFor, valuesFor, predictRoom, fitStatus, predictStatus, FittedWithin, PredictedWithin, FitCall, PredictCall}
 use Rattle.models.proofs.Writing.{length-predictions}
 
 -- ---- the slices' lengths
@@ -73,7 +74,7 @@ if-solved NotSolved P e h = let z : _≡_ {A = ℕ} 0 1 = cc in absurd (omega ar
 pub fitted-within : (model : Model) (i : Input) (k d : ℕ) (w₀ w b₀ b : List Float) (r : FitOutcome) → k ≡ workspaceCells (orderOf model) → d ≡ orderOf model
     → k ≤ length w₀ → d ≤ length b₀ → length b ≡ length (take d b₀)
     → FittedBy (fitOn model i) (take k w₀) w (take d b₀) b r
-    → FittedWithin model i w₀ (w ++ drop k w₀) b₀ (b ++ drop d b₀) r
+    → FittedWithin model i (change (record { workspace = w₀; beta = b₀ }) (record { workspace = w ++ drop k w₀; beta = b ++ drop d b₀ })) r
 fitted-within model i k d w₀ w b₀ b r ek ed hk hd kept f =
     let new : List Float = fitOn model i .beta in
     let K : ℕ = workspaceCells (orderOf model) in
@@ -116,46 +117,44 @@ module _ (status : ℕ) (fit : Fit) (r : FitAnswer) (e : r ≡ answerOf status f
 
 -- ---- a call of `fit`
 
-module _ (model : Model) (i : Input) (w₀ b₀ : List Float) where
-  pub fit-refused : (status : ℕ) → status ≡ fitStatus model i w₀ b₀ → (status ≡ accepted → ⊥) → FitCall model i w₀ w₀ b₀ b₀ (Refused status)
+module _ (model : Model) (i : Input) (s : FitSlices) where
+  pub fit-refused : (status : ℕ) → status ≡ fitStatus model i s → (status ≡ accepted → ⊥) → FitCall model i (change s s) (Refused status)
   fit-refused status e ne =
-      let h : fitStatus model i w₀ b₀ ≡ accepted → ⊥ = λ z. ne (e ∙ z) in
-      let s : ℕ = fitStatus model i w₀ b₀ in
-      let a : Refused status ≡ answerOf s (fitOn model i) = ap Refused e ∙ sym (if-refused s _ _ h) in
+      let n : ℕ = fitStatus model i s in
+      let h : n ≡ accepted → ⊥ = λ z. ne (e ∙ z) in
+      let a : Refused status ≡ answerOf n (fitOn model i) = ap Refused e ∙ sym (if-refused n _ _ h) in
       record {
         answer = a;
-        status = status-of s (fitOn model i) (Refused status) a;
-        values = values-of s (fitOn model i) (Refused status) a;
-        workspace = sym (if-refused s _ _ h);
-        beta = sym (if-refused s _ _ h);
+        status = status-of n (fitOn model i) (Refused status) a;
+        values = values-of n (fitOn model i) (Refused status) a;
+        slices = sym (if-refused n _ _ h);
       }
 
-  pub fit-accepted : (w₁ b₁ : List Float) (r : FitOutcome) → fitStatus model i w₀ b₀ ≡ accepted → FittedWithin model i w₀ w₁ b₀ b₁ r → FitCall model i w₀ w₁ b₀ b₁ (Fitted r)
-  fit-accepted w₁ b₁ r h f =
-      let s : ℕ = fitStatus model i w₀ b₀ in
-      let a : Fitted r ≡ answerOf s (fitOn model i) = ap Fitted (f .outcome) ∙ sym (if-accepted s _ _ h) in
+  pub fit-accepted : (t : FitSlices) (r : FitOutcome) → fitStatus model i s ≡ accepted → FittedWithin model i (change s t) r → FitCall model i (change s t) (Fitted r)
+  fit-accepted t r h f =
+      let n : ℕ = fitStatus model i s in
+      let a : Fitted r ≡ answerOf n (fitOn model i) = ap Fitted (f .outcome) ∙ sym (if-accepted n _ _ h) in
       record {
         answer = a;
-        status = status-of s (fitOn model i) (Fitted r) a;
-        values = values-of s (fitOn model i) (Fitted r) a;
-        workspace = f .workspace ∙ sym (if-accepted s _ _ h);
-        beta = f .beta ∙ sym (if-accepted s _ _ h);
+        status = status-of n (fitOn model i) (Fitted r) a;
+        values = values-of n (fitOn model i) (Fitted r) a;
+        slices = (λ k. record { workspace = f .workspace k; beta = f .beta k }) ∙ sym (if-accepted n _ _ h);
       }
 
 -- ---- a call of `predict`
 
 -- what is written where the fit is solved, and where it is not
-module _ (model : Model) (i : Input) (w₀ w₁ b₀ b₁ : List Float) (r : FitOutcome) (f : FittedWithin model i w₀ w₁ b₀ b₁ r) where
+module _ (model : Model) (i : Input) (s t : FitSlices) (r : FitOutcome) (f : FittedWithin model i (change s t) r) where
   module _ (e : isSolved r ≡ true) where
     predicted-all : predictions model i ≡ map (predictionOf model (i .table) (fitOn model i .beta)) (queries (i .peptides) (i .charges))
     predicted-all = rw (sym (ap isSolved (f .outcome)) ∙ e)
 
     module _ (d : ℕ) (ed : d ≡ orderOf model) (p₀ p₁ : List Float)
-        (p : p₁ ≡ overwritten (map (predictionOf model (i .table) (take d b₁)) (queries (i .peptides) (i .charges))) p₀) where
+        (p : p₁ ≡ overwritten (map (predictionOf model (i .table) (take d (t .beta))) (queries (i .peptides) (i .charges))) p₀) where
       pub solved-predictions : p₁ ≡ overwritten (predictions model i) p₀
       solved-predictions =
-          let b : take d b₁ ≡ fitOn model i .beta = ap (take d) (f .beta) ∙ take-at (fitOn model i .beta) _ d (f .long e ∙ sym ed) in
-          p ∙ ap (λ (t : List Float). overwritten (map (predictionOf model (i .table) t) (queries (i .peptides) (i .charges))) p₀) b ∙ ap (λ (t : List Float). overwritten t p₀) (sym predicted-all)
+          let b : take d (t .beta) ≡ fitOn model i .beta = ap (take d) (f .beta) ∙ take-at (fitOn model i .beta) _ d (f .long e ∙ sym ed) in
+          p ∙ ap (λ (x : List Float). overwritten (map (predictionOf model (i .table) x) (queries (i .peptides) (i .charges))) p₀) b ∙ ap (λ (x : List Float). overwritten x p₀) (sym predicted-all)
 
       pub solved-errors : (e₀ e₁ : List Float) → length (i .observed) ≡ length (i .peptides) → e₁ ≡ overwritten (zipWith errorOf (i .observed) p₁) e₀ → e₁ ≡ overwritten (errors model i) e₀
       solved-errors e₀ e₁ same er =
@@ -176,33 +175,26 @@ module _ (model : Model) (i : Input) (w₀ w₁ b₀ b₁ : List Float) (r : Fit
         let z : errors model i ≡ [] = ap (zipWith errorOf (i .observed)) none-predicted ∙ zipWith-none errorOf (i .observed) in
         ap (λ (t : List Float). overwritten t e₀) (sym z)
 
-module _ (model : Model) (i : Input) (w₀ b₀ p₀ e₀ : List Float) where
-  pub predict-refused : (status : ℕ) → status ≡ predictStatus model i w₀ b₀ p₀ e₀ → (status ≡ accepted → ⊥) → PredictCall model i w₀ w₀ b₀ b₀ p₀ p₀ e₀ e₀ (Refused status)
+module _ (model : Model) (i : Input) (s : PredictSlices) where
+  pub predict-refused : (status : ℕ) → status ≡ predictStatus model i s → (status ≡ accepted → ⊥) → PredictCall model i (change s s) (Refused status)
   predict-refused status e ne =
-      let s : ℕ = predictStatus model i w₀ b₀ p₀ e₀ in
-      let h : s ≡ accepted → ⊥ = λ z. ne (e ∙ z) in
-      let a : Refused status ≡ answerOf s (fitOn model i) = ap Refused e ∙ sym (if-refused s _ _ h) in
+      let n : ℕ = predictStatus model i s in
+      let h : n ≡ accepted → ⊥ = λ z. ne (e ∙ z) in
+      let a : Refused status ≡ answerOf n (fitOn model i) = ap Refused e ∙ sym (if-refused n _ _ h) in
       record {
         answer = a;
-        status = status-of s (fitOn model i) (Refused status) a;
-        values = values-of s (fitOn model i) (Refused status) a;
-        workspace = sym (if-refused s _ _ h);
-        beta = sym (if-refused s _ _ h);
-        predicted = sym (if-refused s _ _ h);
-        error = sym (if-refused s _ _ h);
+        status = status-of n (fitOn model i) (Refused status) a;
+        values = values-of n (fitOn model i) (Refused status) a;
+        slices = sym (if-refused n _ _ h);
       }
 
-  pub predict-accepted : (w₁ b₁ p₁ e₁ : List Float) (r : FitOutcome) → predictStatus model i w₀ b₀ p₀ e₀ ≡ accepted → PredictedWithin model i w₀ w₁ b₀ b₁ p₀ p₁ e₀ e₁ r
-      → PredictCall model i w₀ w₁ b₀ b₁ p₀ p₁ e₀ e₁ (Fitted r)
-  predict-accepted w₁ b₁ p₁ e₁ r h f =
-      let s : ℕ = predictStatus model i w₀ b₀ p₀ e₀ in
-      let a : Fitted r ≡ answerOf s (fitOn model i) = ap Fitted (f .fitted .outcome) ∙ sym (if-accepted s _ _ h) in
+  pub predict-accepted : (t : PredictSlices) (r : FitOutcome) → predictStatus model i s ≡ accepted → PredictedWithin model i (change s t) r → PredictCall model i (change s t) (Fitted r)
+  predict-accepted t r h f =
+      let n : ℕ = predictStatus model i s in
+      let a : Fitted r ≡ answerOf n (fitOn model i) = ap Fitted (f .fitted .outcome) ∙ sym (if-accepted n _ _ h) in
       record {
         answer = a;
-        status = status-of s (fitOn model i) (Fitted r) a;
-        values = values-of s (fitOn model i) (Fitted r) a;
-        workspace = f .fitted .workspace ∙ sym (if-accepted s _ _ h);
-        beta = f .fitted .beta ∙ sym (if-accepted s _ _ h);
-        predicted = f .predicted ∙ sym (if-accepted s _ _ h);
-        error = f .error ∙ sym (if-accepted s _ _ h);
+        status = status-of n (fitOn model i) (Fitted r) a;
+        values = values-of n (fitOn model i) (Fitted r) a;
+        slices = (λ k. record { workspace = f .fitted .workspace k; beta = f .fitted .beta k; predicted = f .predicted k; error = f .error k }) ∙ sym (if-accepted n _ _ h);
       }

@@ -1,8 +1,6 @@
 // Mobility: a linear model of the ion mobility from 100 columns of a peptide and a charge.
-ghost use mathlib.Core.List.{[]};
 ghost use Rattle.embedding.specs.declared.Model.{Model};
-ghost use Rattle.model_fit.specs.Input.{inputOf};
-ghost use Rattle.models.specs.Call.{FitCall, PredictCall};
+ghost use Rattle.models.specs.Call.{mobilityInput, fitSlices, predictSlices, FitCall, PredictCall};
 use crate::FitAnswer;
 use crate::prediction;
 use embedding::Model;
@@ -21,7 +19,10 @@ pub fn fit(
     workspace: &mut [f64],
     beta: &mut [f64],
 ) -> FitAnswer
-    ensures { λ r. ⌜ FitCall Model.Mobility (inputOf (now (peptide .entry)) (now (label .entry)) (now (q .entry)) (now (charge .entry)) (now (mobility .entry)) (now (letters .entry)) (now (offsets .entry)) (now (masses .entry)) []) (now (workspace .entry)) (now (workspace .exit)) (now (beta .entry)) (now (beta .exit)) r ⌝ }
+    ensures { λ r. ⌜ FitCall Model.Mobility
+        (mobilityInput peptide label q charge mobility letters offsets masses)
+        (fitSlices workspace beta)
+        r ⌝ }
 {
     let none = [0.0f64; 1];
     prediction::fit(
@@ -56,7 +57,10 @@ pub fn predict(
     predicted: &mut [f32],
     error: &mut [f32],
 ) -> FitAnswer
-    ensures { λ r. ⌜ PredictCall Model.Mobility (inputOf (now (peptide .entry)) (now (label .entry)) (now (q .entry)) (now (charge .entry)) (now (mobility .entry)) (now (letters .entry)) (now (offsets .entry)) (now (masses .entry)) []) (now (workspace .entry)) (now (workspace .exit)) (now (beta .entry)) (now (beta .exit)) (now (predicted .entry)) (now (predicted .exit)) (now (error .entry)) (now (error .exit)) r ⌝ }
+    ensures { λ r. ⌜ PredictCall Model.Mobility
+        (mobilityInput peptide label q charge mobility letters offsets masses)
+        (predictSlices workspace beta predicted error)
+        r ⌝ }
 {
     let none = [0.0f64; 1];
     prediction::predict(

@@ -4,11 +4,11 @@ ghost use mathlib.Core.Bool.{true};
 ghost use mathlib.Core.List.{map, zipWith};
 ghost use Prim.Native.Nat.{_≤_};
 ghost use lib.ListN.{length};
-ghost use Rattle.model_fit.specs.Input.{inputOf, tableOf, queries, fitRoom};
+ghost use Rattle.model_fit.specs.Input.{tableOf, queries, fitRoom};
 ghost use Rattle.matrix.specs.Lists.{overwritten};
 ghost use Rattle.model_fit.specs.Shared.{Numbered, Checked};
 ghost use Rattle.models.specs.Prediction.{largest, isSolved, predictionOf, errorOf};
-ghost use Rattle.models.specs.Call.{predictRoom, FittedWithin, PredictedWithin, FitCall, PredictCall};
+ghost use Rattle.models.specs.Call.{inputAt, modelInput, fitSlices, predictSlices, predictRoom, FittedWithin, PredictedWithin, FitCall, PredictCall};
 use crate::FitAnswer;
 use embedding::Model;
 use matrix::PeptideIx;
@@ -89,9 +89,12 @@ fn fit_accepted(
     workspace: &mut [f64],
     beta: &mut [f64],
 ) -> FitOutcome
-    requires { ⌜ Checked (inputOf (now peptide) (now label) (now q) (now charge) (now observed) (now letters) (now offsets) (now masses) (now logs)) ⌝ }
+    requires { ⌜ Checked (inputAt peptide label q charge observed letters offsets masses logs) ⌝ }
     requires { ⌜ fitRoom model (length (now workspace)) (length (now beta)) ≡ true ⌝ }
-    ensures { λ r. ⌜ FittedWithin model (inputOf (now (peptide .entry)) (now (label .entry)) (now (q .entry)) (now (charge .entry)) (now (observed .entry)) (now (letters .entry)) (now (offsets .entry)) (now (masses .entry)) (now (logs .entry))) (now (workspace .entry)) (now (workspace .exit)) (now (beta .entry)) (now (beta .exit)) r ⌝ }
+    ensures { λ r. ⌜ FittedWithin model
+        (modelInput peptide label q charge observed letters offsets masses logs)
+        (fitSlices workspace beta)
+        r ⌝ }
 {
     let cells = workspace_cells(model);
     let d = embedding::order(model);
@@ -126,7 +129,10 @@ pub(crate) fn fit(
     workspace: &mut [f64],
     beta: &mut [f64],
 ) -> FitAnswer
-    ensures { λ r. ⌜ FitCall model (inputOf (now (peptide .entry)) (now (label .entry)) (now (q .entry)) (now (charge .entry)) (now (observed .entry)) (now (letters .entry)) (now (offsets .entry)) (now (masses .entry)) (now (logs .entry))) (now (workspace .entry)) (now (workspace .exit)) (now (beta .entry)) (now (beta .exit)) r ⌝ }
+    ensures { λ r. ⌜ FitCall model
+        (modelInput peptide label q charge observed letters offsets masses logs)
+        (fitSlices workspace beta)
+        r ⌝ }
 {
     let room = fit_room(model, workspace.len(), beta.len());
     let status = check(
@@ -142,7 +148,7 @@ pub(crate) fn fit(
         logs,
         room,
     );
-    if status != feature::ACCEPTED {
+    if status != status::ACCEPTED {
         return FitAnswer::Refused(status);
     }
     FitAnswer::Fitted(fit_accepted(
@@ -209,9 +215,12 @@ fn predict_accepted(
     predicted: &mut [f32],
     error: &mut [f32],
 ) -> FitOutcome
-    requires { ⌜ Checked (inputOf (now peptide) (now label) (now q) (now charge) (now observed) (now letters) (now offsets) (now masses) (now logs)) ⌝ }
+    requires { ⌜ Checked (inputAt peptide label q charge observed letters offsets masses logs) ⌝ }
     requires { ⌜ predictRoom model (length (now peptide)) (length (now workspace)) (length (now beta)) (length (now predicted)) (length (now error)) ≡ true ⌝ }
-    ensures { λ r. ⌜ PredictedWithin model (inputOf (now (peptide .entry)) (now (label .entry)) (now (q .entry)) (now (charge .entry)) (now (observed .entry)) (now (letters .entry)) (now (offsets .entry)) (now (masses .entry)) (now (logs .entry))) (now (workspace .entry)) (now (workspace .exit)) (now (beta .entry)) (now (beta .exit)) (now (predicted .entry)) (now (predicted .exit)) (now (error .entry)) (now (error .exit)) r ⌝ }
+    ensures { λ r. ⌜ PredictedWithin model
+        (modelInput peptide label q charge observed letters offsets masses logs)
+        (predictSlices workspace beta predicted error)
+        r ⌝ }
 {
     let outcome = fit_accepted(
         model,
@@ -262,7 +271,10 @@ pub(crate) fn predict(
     predicted: &mut [f32],
     error: &mut [f32],
 ) -> FitAnswer
-    ensures { λ r. ⌜ PredictCall model (inputOf (now (peptide .entry)) (now (label .entry)) (now (q .entry)) (now (charge .entry)) (now (observed .entry)) (now (letters .entry)) (now (offsets .entry)) (now (masses .entry)) (now (logs .entry))) (now (workspace .entry)) (now (workspace .exit)) (now (beta .entry)) (now (beta .exit)) (now (predicted .entry)) (now (predicted .exit)) (now (error .entry)) (now (error .exit)) r ⌝ }
+    ensures { λ r. ⌜ PredictCall model
+        (modelInput peptide label q charge observed letters offsets masses logs)
+        (predictSlices workspace beta predicted error)
+        r ⌝ }
 {
     let room = predict_room(
         model,
@@ -285,7 +297,7 @@ pub(crate) fn predict(
         logs,
         room,
     );
-    if status != feature::ACCEPTED {
+    if status != status::ACCEPTED {
         return FitAnswer::Refused(status);
     }
     FitAnswer::Fitted(predict_accepted(

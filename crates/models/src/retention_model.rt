@@ -1,8 +1,6 @@
 // Retention: a linear model of the aligned time from 69 columns of a peptide.
-ghost use mathlib.Core.List.{[]};
 ghost use Rattle.embedding.specs.declared.Model.{Model};
-ghost use Rattle.model_fit.specs.Input.{inputOf};
-ghost use Rattle.models.specs.Call.{FitCall, PredictCall};
+ghost use Rattle.models.specs.Call.{retentionInput, fitSlices, predictSlices, FitCall, PredictCall};
 use crate::FitAnswer;
 use crate::prediction;
 use embedding::Model;
@@ -21,7 +19,10 @@ pub fn fit(
     workspace: &mut [f64],
     beta: &mut [f64],
 ) -> FitAnswer
-    ensures { λ r. ⌜ FitCall Model.Retention (inputOf (now (peptide .entry)) (now (label .entry)) (now (q .entry)) [] (now (aligned .entry)) (now (letters .entry)) (now (offsets .entry)) (now (masses .entry)) (now (logs .entry))) (now (workspace .entry)) (now (workspace .exit)) (now (beta .entry)) (now (beta .exit)) r ⌝ }
+    ensures { λ r. ⌜ FitCall Model.Retention
+        (retentionInput peptide label q aligned letters offsets masses logs)
+        (fitSlices workspace beta)
+        r ⌝ }
 {
     prediction::fit(
         Model::Retention,
@@ -55,7 +56,10 @@ pub fn predict(
     predicted: &mut [f32],
     error: &mut [f32],
 ) -> FitAnswer
-    ensures { λ r. ⌜ PredictCall Model.Retention (inputOf (now (peptide .entry)) (now (label .entry)) (now (q .entry)) [] (now (aligned .entry)) (now (letters .entry)) (now (offsets .entry)) (now (masses .entry)) (now (logs .entry))) (now (workspace .entry)) (now (workspace .exit)) (now (beta .entry)) (now (beta .exit)) (now (predicted .entry)) (now (predicted .exit)) (now (error .entry)) (now (error .exit)) r ⌝ }
+    ensures { λ r. ⌜ PredictCall Model.Retention
+        (retentionInput peptide label q aligned letters offsets masses logs)
+        (predictSlices workspace beta predicted error)
+        r ⌝ }
 {
     prediction::predict(
         Model::Retention,

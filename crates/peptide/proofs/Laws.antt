@@ -1,6 +1,6 @@
 -- Laws of the peptide table: how a loop goes through the offsets, and what a table that passes says of each peptide.
 use mathlib.Core.Path.{_≡_, refl, ap, _∙_}
-use mathlib.Core.Bool.{Bool, true, false, _&&_, cond, not}
+use mathlib.Core.Bool.{Bool, true, false, _&&_, cond}
 use mathlib.Core.List.{List, [], _∷_}
 use Prim.Native.Nat.{ℕ, zero, suc, _+_, _-_, _≤_, _<_}
 use native.Mathlib.Nat.{le-of-suc-le-suc, not-suc-le-zero}
@@ -11,10 +11,11 @@ use lib.ListN.{length, getD, drop, length-drop, drop-of-length-le}
 use lib.Seq.{drop-cons, length-take-le}
 use borrow.Author.Tests.{leb-true, eqb-true, eqb-false}
 use Rattle.mass.specs.Mass.{isLetter}
-use Rattle.feature.specs.Checks.{every}
-use Rattle.feature.specs.Status.{accepted, badOffsets, badLetter, firstFailing}
-use Rattle.feature.proofs.Laws.{and-true, every-take, every-drop}
-use Rattle.peptide.specs.Table.{maxLength, climbs, offsetsRight, lettersRight, tableStatus, startOf, endOf, sequenceOf, HasPeptide}
+use Rattle.status.specs.Checks.{every}
+use Rattle.status.specs.Limits.{maxLetters}
+use Rattle.status.specs.Status.{accepted, badOffsets, badLetter, firstFailing}
+use Rattle.status.proofs.Laws.{and-true, every-take, every-drop}
+use Rattle.peptide.specs.Table.{climbs, offsetsRight, lettersRight, tableStatus, startOf, endOf, sequenceOf, HasPeptide}
 
 -- ---- a loop through the offsets
 
@@ -33,7 +34,7 @@ offsets-none peptides letters (o ∷ offsets) h = absurd (not-suc-le-zero (le-of
 
 -- the offset at i and those after it
 pub climbs-step : (start end i : ℕ) (offsets : List ℕ) → i < length offsets
-    → climbs start end (drop i offsets) ≡ leb start (getD offsets i 0) && leb (getD offsets i 0) (start + maxLength) && climbs (getD offsets i 0) end (drop (i + 1) offsets)
+    → climbs start end (drop i offsets) ≡ leb start (getD offsets i 0) && leb (getD offsets i 0) (start + maxLetters) && climbs (getD offsets i 0) end (drop (i + 1) offsets)
 unfolding climbs
 climbs-step start end i offsets h = rw (drop-cons offsets i 0 h, add-one i)
 
@@ -45,12 +46,12 @@ climbs-done start end i offsets h = rw (drop-of-length-le offsets {i = i} h)
 -- ---- what offsets that pass say
 
 -- the tests at one offset
-climbs-cons : (start end o : ℕ) (offsets : List ℕ) → climbs start end (o ∷ offsets) ≡ true → (start ≤ o) × (o ≤ start + maxLength) × (climbs o end offsets ≡ true)
+climbs-cons : (start end o : ℕ) (offsets : List ℕ) → climbs start end (o ∷ offsets) ≡ true → (start ≤ o) × (o ≤ start + maxLetters) × (climbs o end offsets ≡ true)
 unfolding climbs
 climbs-cons start end o offsets e =
-    let s = and-true (leb start o && leb o (start + maxLength)) (climbs o end offsets) e in
-    let t = and-true (leb start o) (leb o (start + maxLength)) (s .0) in
-    (leb-true start o (t .0), leb-true o (start + maxLength) (t .1), s .1)
+    let s = and-true (leb start o && leb o (start + maxLetters)) (climbs o end offsets) e in
+    let t = and-true (leb start o) (leb o (start + maxLetters)) (s .0) in
+    (leb-true start o (t .0), leb-true o (start + maxLetters) (t .1), s .1)
 
 pub climbs-le : (start end : ℕ) (offsets : List ℕ) → climbs start end offsets ≡ true → start ≤ end
 unfolding climbs
@@ -59,7 +60,7 @@ climbs-le start end (o ∷ offsets) e = let s = climbs-cons start end o offsets 
 
 -- the offset at i, after the one before it
 pub climbs-at : (start end i : ℕ) (offsets : List ℕ) → climbs start end offsets ≡ true → i < length offsets
-    → (getD (start ∷ offsets) i 0 ≤ getD offsets i 0) × (getD offsets i 0 ≤ end) × (getD offsets i 0 ≤ getD (start ∷ offsets) i 0 + maxLength)
+    → (getD (start ∷ offsets) i 0 ≤ getD offsets i 0) × (getD offsets i 0 ≤ end) × (getD offsets i 0 ≤ getD (start ∷ offsets) i 0 + maxLetters)
 unfolding climbs
 climbs-at start end i [] e h = absurd (not-suc-le-zero h)
 climbs-at start end zero (o ∷ offsets) e h = let s = climbs-cons start end o offsets e in (s .0, climbs-le o end offsets (s .2), s .1)
@@ -82,18 +83,6 @@ offsets-peptide letters (o ∷ offsets) peptides p e h =
     let t = climbs-at o (length letters) p offsets (s .1) (omega arith) in
     let next : getD (o ∷ offsets) (p + 1) 0 ≡ getD offsets p 0 = ap (λ (k : ℕ). getD (o ∷ offsets) k 0) (add-one p) in
     record { numbered = omega arith; rising = rw next (t .0); within = rw next (t .1); short = rw next (t .2) }
-
--- ---- the first check that fails
-
--- a check that fails, before all others
-pub fails : (passed : Bool) (later status : ℕ) → not passed ≡ true → status ≡ cond passed later status
-fails true later status e = cc
-fails false later status e = refl
-
--- a check that passes, before the others
-pub passes : (passed : Bool) (later status answer : ℕ) → not passed ≡ false → answer ≡ later → answer ≡ cond passed later status
-passes true later status answer e same = same
-passes false later status answer e same = cc
 
 -- ---- the table's status
 
@@ -132,7 +121,7 @@ has-peptide letters offsets peptides p e h = offsets-peptide letters offsets pep
 pub length-sequence : (letters offsets : List ℕ) (p : ℕ) → HasPeptide letters offsets p → length (sequenceOf letters offsets p) ≡ endOf offsets p - startOf offsets p
 length-sequence letters offsets p h = length-take-le (endOf offsets p - startOf offsets p) (drop (startOf offsets p) letters) (simp length-drop (omega (arith, h .within)))
 
-pub sequence-short : (letters offsets : List ℕ) (p : ℕ) → HasPeptide letters offsets p → length (sequenceOf letters offsets p) ≤ maxLength
+pub sequence-short : (letters offsets : List ℕ) (p : ℕ) → HasPeptide letters offsets p → length (sequenceOf letters offsets p) ≤ maxLetters
 sequence-short letters offsets p h = omega (arith, length-sequence letters offsets p h, h .short)
 
 -- and each is A to Z

@@ -6,8 +6,9 @@ use lib.Dec.{eqb, leb}
 use lib.Ieee.{Float}
 use lib.ListN.{length, getD, take, drop}
 use Rattle.mass.specs.Mass.{isLetter}
-use Rattle.feature.specs.Checks.{every}
-use Rattle.feature.specs.Status.{accepted, badOffsets, badLetter}
+use Rattle.status.specs.Checks.{every}
+use Rattle.status.specs.Limits.{maxLetters}
+use Rattle.status.specs.Status.{accepted, badOffsets, badLetter}
 
 -- the letters of all peptides, where each peptide's begin and the last's end, a mass for each peptide, and for retention its log
 pub record Table : Type 0 where
@@ -16,14 +17,10 @@ pub record Table : Type 0 where
   pub masses : List Float
   pub logs : List Float
 
--- the most letters that a peptide may have
-abbrev pub maxLength : ℕ
-maxLength = 255
-
 -- the offsets after one at `start`: none falls, none is more than a peptide's length above the one before, and the last is `end`
 unfoldable pub climbs : (start end : ℕ) → List ℕ → Bool
 climbs start end [] = eqb start end
-climbs start end (o ∷ offsets) = leb start o && leb o (start + maxLength) && climbs o end offsets
+climbs start end (o ∷ offsets) = leb start o && leb o (start + maxLetters) && climbs o end offsets
 
 -- the offsets of so many peptides with so many letters: one more than the peptides, from 0, never falling, ending at the letters' length,
 -- no peptide over 255 letters
@@ -55,4 +52,4 @@ pub record HasPeptide (letters offsets : List ℕ) (p : ℕ) : Type 0 where
   pub numbered : p + 1 < length offsets
   pub rising : startOf offsets p ≤ endOf offsets p
   pub within : endOf offsets p ≤ length letters
-  pub short : endOf offsets p ≤ startOf offsets p + maxLength
+  pub short : endOf offsets p ≤ startOf offsets p + maxLetters

@@ -3,9 +3,6 @@ use matrix::PeptideIx;
 ghost use mathlib.Core.Path.{_≡_};
 ghost use Rattle.peptide.specs.Table.{offsetsRight, lettersRight, tableStatus, sequenceOf, HasPeptide};
 
-// The most letters that a peptide may have.
-pub const MAX_LENGTH: usize = 255;
-
 // Whether the offsets are those of so many peptides with so many letters: check 7.
 fn check_offsets(offsets: &[u32], peptides: usize, letters: usize) -> bool
     ensures { λ r. ⌜ r ≡ offsetsRight peptides letters (now (offsets .entry)) ⌝ }
@@ -26,7 +23,7 @@ fn check_offsets(offsets: &[u32], peptides: usize, letters: usize) -> bool
         if next < start {
             return false;
         }
-        if start + MAX_LENGTH < next {
+        if start + status::MAX_LETTERS < next {
             return false;
         }
         start = next;
@@ -57,12 +54,12 @@ pub fn check_table(letters: &[u8], offsets: &[u32], peptides: usize) -> u8
     let offsets_right = check_offsets(offsets, peptides, letters.len());
     let letters_right = check_letters(letters);
     if !offsets_right {
-        return feature::BAD_OFFSETS;
+        return status::BAD_OFFSETS;
     }
     if !letters_right {
-        return feature::BAD_LETTER;
+        return status::BAD_LETTER;
     }
-    feature::ACCEPTED
+    status::ACCEPTED
 }
 
 // A peptide's letters. For the models, which call it on a table that has passed and a peptide's number below its peptides.

@@ -87,7 +87,7 @@ fn last() {
 
 // The length of a peptide, or 999 where the table is refused or has no such peptide.
 fn length(letters: &[u8], offsets: &[u32], peptides: usize, p: u32) -> u64 {
-    if peptide::check_table(letters, offsets, peptides) != feature::ACCEPTED {
+    if peptide::check_table(letters, offsets, peptides) != status::ACCEPTED {
         return 999;
     }
     if peptides <= p as usize {

@@ -4,7 +4,7 @@ use mathlib.Core.Bool.{Bool, true, false, cond}
 use mathlib.Core.List.{List, [], _∷_}
 use Prim.Native.Nat.{ℕ}
 use lib.Ieee.{Float}
-use Rattle.feature.specs.Status.{accepted}
+use Rattle.status.specs.Status.{accepted}
 use Rattle.rt_matrix.specs.declared.Alignment.{Alignment}
 use Rattle.records.specs.Record.{reaches, recordAt, recordOf, timeBy, numberOf, recordsIn, timeNumberOf, timesIn, timesBy, LookupCall, TimeByCall, AlignedCall}
 use Rattle.records.specs.declared.AlignedTime.{AlignedTime}

@@ -6,7 +6,7 @@ use mathlib.Core.Path.{_≡_}
 use lib.Dec.{ltb}
 use lib.Ieee.{Float}
 use lib.ListN.{length, getD}
-use Rattle.feature.specs.Status.{accepted, badFile}
+use Rattle.status.specs.Status.{accepted, badFile}
 use Rattle.rt_matrix.specs.declared.Alignment.{Alignment}
 use Rattle.retention_alignment.specs.Alignments.{alignedBy, noAlignment}
 use Rattle.records.specs.declared.AlignedTime.{AlignedTime}

@@ -25,7 +25,7 @@ fn find(records: &[Alignment], file: u32) -> Found
     if i < records.len() {
         Found::At(records[i])
     } else {
-        Found::Refused(feature::BAD_FILE)
+        Found::Refused(status::BAD_FILE)
     }
 }
 

@@ -7,11 +7,12 @@ use native.Mathlib.Omega.{arith}
 use lib.Dec.{eqb, leb}
 use lib.ListN.{length, drop, replicate}
 use borrow.Author.Tests.{leb-true, eq-eqb, ne-eqb}
+use Rattle.params.specs.Slice.{change}
 use Rattle.float.specs.Number.{zero64}
 use Rattle.matrix.proofs.Lists.{overwrite-front}
-use Rattle.feature.specs.Checks.{allBelow}
-use Rattle.feature.specs.Status.{accepted}
-use Rattle.feature.proofs.Laws.{Limits, limits, length-at, and-true}
+use Rattle.status.specs.Checks.{allBelow}
+use Rattle.status.specs.Status.{accepted}
+use Rattle.status.proofs.Laws.{Limits, limits, length-at, and-true}
 use Rattle.rt_matrix.specs.Cells.{recordsOf}
 use Rattle.rt_matrix.specs.declared.Alignment.{Alignment}
 use Rattle.rt_matrix.proofs.RecordColumns.{columns-are}
@@ -72,7 +73,7 @@ passed i s e =
 -- ---- the contract
 
 -- a refused call
-pub refused : (i : Input) (s : Slices) (n : ℕ) → n ≡ status i s → (n ≡ 0 → ⊥) → Aligned i s s (Refused n)
+pub refused : (i : Input) (s : Slices) (n : ℕ) → n ≡ status i s → (n ≡ 0 → ⊥) → Aligned i (change s s) (Refused n)
 unfolding numberOf answerOf slicesAfter
 refused i s n e h =
     let test : eqb (status i s) accepted ≡ false = ne-eqb (status i s) 0 (λ z. h (e ∙ z)) in
@@ -80,34 +81,31 @@ refused i s n e h =
     record {
       answer = ap Refused e ∙ sym (ap (λ (b : Bool). cond b Accepted (Refused (status i s))) test);
       number = e;
-      workspace = ap (λ (t : Slices). t .workspace) same;
-      maxRt = ap (λ (t : Slices). t .maxRt) same;
-      slope = ap (λ (t : Slices). t .slope) same;
-      intercept = ap (λ (t : Slices). t .intercept) same;
-      aligned = ap (λ (t : Slices). t .aligned) same;
+      slices = same;
     }
 
 -- an accepted call, from what the work on the parts left
 pub accepted-is : (i : Input) (before parts : Slices) (cells : ℕ) → status i before ≡ 0 → cells ≡ i .peptides * i .files → Written i parts
     → length (parts .workspace) ≡ cells → length (parts .maxRt) ≡ i .files → length (parts .slope) ≡ i .files → length (parts .intercept) ≡ i .files → length (parts .aligned) ≡ length (i .file)
-    → Aligned i before (record {
+    → Aligned i (change before (record {
       workspace = parts .workspace ++ drop cells (before .workspace);
       maxRt = parts .maxRt ++ drop (i .files) (before .maxRt);
       slope = parts .slope ++ drop (i .files) (before .slope);
       intercept = parts .intercept ++ drop (i .files) (before .intercept);
       aligned = parts .aligned ++ drop (length (i .file)) (before .aligned);
-    }) Accepted
+    })) Accepted
 unfolding numberOf answerOf filled slicesAfter
 accepted-is i before parts cells e n w lw lm ls li la =
     let test : eqb (status i before) accepted ≡ true = eq-eqb (status i before) 0 e in
     let now : filled i before ≡ slicesAfter i before = sym (ap (λ (b : Bool). cond b (filled i before) before) test) in
     let columns = columns-are (parts .maxRt) (parts .slope) (parts .intercept) (ls ∙ sym lm) (li ∙ sym lm) in
+    let workspace-is = overwrite-front (replicate (i .peptides * i .files) zero64) (parts .workspace) (before .workspace) cells (w .workspace) lw in
+    let maxRt-is = overwrite-front (map (λ (a : Alignment). a .«max_rt») (recordsFor i)) (parts .maxRt) (before .maxRt) (i .files) (sym (columns .0) ∙ ap (map (λ (a : Alignment). a .«max_rt»)) (w .records)) lm in
+    let slope-is = overwrite-front (map (λ (a : Alignment). a .slope) (recordsFor i)) (parts .slope) (before .slope) (i .files) (sym (columns .1) ∙ ap (map (λ (a : Alignment). a .slope)) (w .records)) ls in
+    let intercept-is = overwrite-front (map (λ (a : Alignment). a .intercept) (recordsFor i)) (parts .intercept) (before .intercept) (i .files) (sym (columns .2) ∙ ap (map (λ (a : Alignment). a .intercept)) (w .records)) li in
+    let aligned-is = overwrite-front _ (parts .aligned) (before .aligned) (length (i .file)) (w .aligned) la in
     record {
       answer = sym (ap (λ (b : Bool). cond b Accepted (Refused (status i before))) test);
       number = sym e;
-      workspace = overwrite-front (replicate (i .peptides * i .files) zero64) (parts .workspace) (before .workspace) cells (w .workspace) lw ∙ ap (λ (t : Slices). t .workspace) now;
-      maxRt = overwrite-front (map (λ (a : Alignment). a .«max_rt») (recordsFor i)) (parts .maxRt) (before .maxRt) (i .files) (sym (columns .0) ∙ ap (map (λ (a : Alignment). a .«max_rt»)) (w .records)) lm ∙ ap (λ (t : Slices). t .maxRt) now;
-      slope = overwrite-front (map (λ (a : Alignment). a .slope) (recordsFor i)) (parts .slope) (before .slope) (i .files) (sym (columns .1) ∙ ap (map (λ (a : Alignment). a .slope)) (w .records)) ls ∙ ap (λ (t : Slices). t .slope) now;
-      intercept = overwrite-front (map (λ (a : Alignment). a .intercept) (recordsFor i)) (parts .intercept) (before .intercept) (i .files) (sym (columns .2) ∙ ap (map (λ (a : Alignment). a .intercept)) (w .records)) li ∙ ap (λ (t : Slices). t .intercept) now;
-      aligned = overwrite-front _ (parts .aligned) (before .aligned) (length (i .file)) (w .aligned) la ∙ ap (λ (t : Slices). t .aligned) now;
+      slices = (λ k. record { workspace = workspace-is k; maxRt = maxRt-is k; slope = slope-is k; intercept = intercept-is k; aligned = aligned-is k }) ∙ now;
     }

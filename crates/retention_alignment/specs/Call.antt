@@ -7,11 +7,14 @@ use lib.Dec.{eqb, leb}
 use lib.IntN.{ℤ}
 use lib.ListN.{length, replicate}
 use lib.Ieee.{Float}
+use denote.Ref.{now}
+use Rattle.params.specs.Slice.{Held, Change, change, Slice}
 use Rattle.float.specs.Number.{zero64}
 use Rattle.matrix.specs.Lists.{overwritten}
 use Rattle.feature.specs.Feature.{mask, kept}
-use Rattle.feature.specs.Checks.{allBelow, lengthsAgree, withinLimits, maxFiles, maxPeptides, maxCells}
-use Rattle.feature.specs.Status.{accepted, badLengths, pastLimit, tooShort, badFile, badPeptide, firstFailing}
+use Rattle.status.specs.Checks.{allBelow, lengthsAgree}
+use Rattle.status.specs.Limits.{withinLimits, maxFiles, maxPeptides, maxCells}
+use Rattle.status.specs.Status.{accepted, badLengths, pastLimit, tooShort, badFile, badPeptide, firstFailing}
 use Rattle.rt_matrix.specs.Cells.{recordsOf}
 use Rattle.rt_matrix.specs.declared.Alignment.{Alignment}
 use Rattle.retention_alignment.specs.Observation.{Obs, observations, maxRts}
@@ -36,6 +39,29 @@ pub record Slices : Type 0 where
   pub slope : List Float
   pub intercept : List Float
   pub aligned : List Float
+
+-- ---- as a function's parameters hold them
+
+-- in a `requires`
+abbrev pub inputAt : (file peptide : Held ℕ) (label : Held ℤ) (q rt : Held Float) (files peptides : ℕ) → Input
+inputAt file peptide label q rt files peptides =
+    record { file = now file; peptide = now peptide; label = now label; q = now q; rt = now rt; files = files; peptides = peptides }
+
+abbrev pub slicesAt : (workspace maxRt slope intercept aligned : Held Float) → Slices
+slicesAt workspace maxRt slope intercept aligned =
+    record { workspace = now workspace; maxRt = now maxRt; slope = now slope; intercept = now intercept; aligned = now aligned }
+
+-- in an `ensures`: what is read as the call begins, and what is written as it begins and as it returns
+abbrev pub inputOf : (file peptide : Slice ℕ) (label : Slice ℤ) (q rt : Slice Float) (files peptides : ℕ) → Input
+inputOf file peptide label q rt files peptides = inputAt (file .entry) (peptide .entry) (label .entry) (q .entry) (rt .entry) files peptides
+
+abbrev pub slicesOf : (workspace maxRt slope intercept aligned : Slice Float) → Change Slices
+slicesOf workspace maxRt slope intercept aligned =
+    change
+    (slicesAt (workspace .entry) (maxRt .entry) (slope .entry) (intercept .entry) (aligned .entry))
+    (slicesAt (workspace .exit) (maxRt .exit) (slope .exit) (intercept .exit) (aligned .exit))
+
+-- ---- the checks
 
 -- the workspace has the needed cells, and the outputs a cell for each file or row
 abbrev pub longEnough : (cells files rows workspace maxRt slope intercept aligned : ℕ) → Bool
@@ -120,11 +146,7 @@ pub record Written (i : Input) (s : Slices) : Type 0 where
   pub aligned : s .aligned ≡ map (aligned (recordsFor i)) (rows i)
 
 -- The contract: the answer, its number, and every slice, each cell of it.
-pub record Aligned (i : Input) (before after : Slices) (r : AlignAnswer) : Type 0 where
-  pub answer : r ≡ answerOf (status i before)
-  pub number : numberOf r ≡ status i before
-  pub workspace : after .workspace ≡ slicesAfter i before .workspace
-  pub maxRt : after .maxRt ≡ slicesAfter i before .maxRt
-  pub slope : after .slope ≡ slicesAfter i before .slope
-  pub intercept : after .intercept ≡ slicesAfter i before .intercept
-  pub aligned : after .aligned ≡ slicesAfter i before .aligned
+pub record Aligned (i : Input) (s : Change Slices) (r : AlignAnswer) : Type 0 where
+  pub answer : r ≡ answerOf (status i (s .entry))
+  pub number : numberOf r ≡ status i (s .entry)
+  pub slices : s .exit ≡ slicesAfter i (s .entry)

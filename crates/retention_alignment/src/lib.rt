@@ -5,15 +5,15 @@ ghost use mathlib.Core.Bool.{true};
 ghost use mathlib.Core.List.{List, map};
 ghost use Prim.Native.Nat.{ℕ, _*_, _<_, _^_};
 ghost use lib.ListN.{length};
-ghost use Rattle.feature.specs.Checks.{allBelow};
+ghost use Rattle.status.specs.Checks.{allBelow};
 ghost use Rattle.rt_matrix.specs.Cells.{recordsOf};
 ghost use Rattle.retention_alignment.specs.Observation.{observations};
 ghost use Rattle.retention_alignment.specs.Alignments.{onLine, aligned};
-ghost use Rattle.retention_alignment.specs.Call.{longEnough, statusOf, Checked, Written, Aligned};
+ghost use Rattle.retention_alignment.specs.Call.{inputAt, inputOf, slicesAt, slicesOf, longEnough, statusOf, Checked, Written, Aligned};
 
 mod times;
 
-use feature::MAX_FILES;
+use status::MAX_FILES;
 use matrix::FileIx;
 pub use rt_matrix::Alignment;
 
@@ -105,11 +105,11 @@ fn check(
     ensures { λ r. ⌜ r ≡ statusOf (now (file .entry)) (now (peptide .entry)) labels qs rts files peptides workspace «max_rt» slope intercept aligned ⌝ }
 {
     let rows = file.len();
-    if !feature::same_lengths(rows, peptide.len(), labels, qs, rts) {
-        return feature::BAD_LENGTHS;
+    if !status::same_lengths(rows, peptide.len(), labels, qs, rts) {
+        return status::BAD_LENGTHS;
     }
-    if !feature::limits(files, rows, peptides) {
-        return feature::PAST_LIMIT;
+    if !status::limits(files, rows, peptides) {
+        return status::PAST_LIMIT;
     }
     let cells = cell_count(peptides, files);
     if !long_enough(
@@ -122,15 +122,15 @@ fn check(
         intercept,
         aligned,
     ) {
-        return feature::TOO_SHORT;
+        return status::TOO_SHORT;
     }
-    if !feature::all_below(file, files) {
-        return feature::BAD_FILE;
+    if !status::all_below(file, files) {
+        return status::BAD_FILE;
     }
-    if !feature::all_below(peptide, peptides) {
-        return feature::BAD_PEPTIDE;
+    if !status::all_below(peptide, peptides) {
+        return status::BAD_PEPTIDE;
     }
-    feature::ACCEPTED
+    status::ACCEPTED
 }
 
 // The work of an accepted call.
@@ -148,8 +148,12 @@ fn align(
     intercept: &mut [f32],
     aligned: &mut [f32],
 )
-    requires { ⌜ Checked (record { file = now file; peptide = now peptide; label = now label; q = now q; rt = now rt; files = files; peptides = peptides }) (record { workspace = now cells; maxRt = now «max_rt»; slope = now slope; intercept = now intercept; aligned = now aligned }) ⌝ }
-    ensures { λ _. ⌜ Written (record { file = now (file .entry); peptide = now (peptide .entry); label = now (label .entry); q = now (q .entry); rt = now (rt .entry); files = files; peptides = peptides }) (record { workspace = now (cells .exit); maxRt = now («max_rt» .exit); slope = now (slope .exit); intercept = now (intercept .exit); aligned = now (aligned .exit) }) ⌝ }
+    requires { ⌜ Checked
+        (inputAt file peptide label q rt files peptides)
+        (slicesAt cells «max_rt» slope intercept aligned) ⌝ }
+    ensures { λ _. ⌜ Written
+        (inputOf file peptide label q rt files peptides)
+        (slicesOf cells «max_rt» slope intercept aligned .exit) ⌝ }
 {
     let mut max = [0u32; MAX_FILES];
     times::max_rt_by_file(file, rt, &mut max[..files]);
@@ -175,7 +179,10 @@ pub fn global_alignment(
     intercept: &mut [f32],
     aligned: &mut [f32],
 ) -> AlignAnswer
-    ensures { λ r. ⌜ Aligned (record { file = now (file .entry); peptide = now (peptide .entry); label = now (label .entry); q = now (q .entry); rt = now (rt .entry); files = files; peptides = peptides }) (record { workspace = now (workspace .entry); maxRt = now («max_rt» .entry); slope = now (slope .entry); intercept = now (intercept .entry); aligned = now (aligned .entry) }) (record { workspace = now (workspace .exit); maxRt = now («max_rt» .exit); slope = now (slope .exit); intercept = now (intercept .exit); aligned = now (aligned .exit) }) r ⌝ }
+    ensures { λ r. ⌜ Aligned
+        (inputOf file peptide label q rt files peptides)
+        (slicesOf workspace «max_rt» slope intercept aligned)
+        r ⌝ }
 {
     let status = check(
         file,
@@ -191,7 +198,7 @@ pub fn global_alignment(
         intercept.len(),
         aligned.len(),
     );
-    if status != feature::ACCEPTED {
+    if status != status::ACCEPTED {
         return AlignAnswer::Refused(status);
     }
     let cells = cell_count(peptides, files);

@@ -5,7 +5,7 @@ ghost use mathlib.Core.Bool.{true};
 ghost use Prim.Native.Nat.{ℕ, _*_, _<_, _^_, max};
 ghost use lib.ListN.{length, replicate};
 ghost use Rattle.feature.specs.Feature.{mask, kept};
-ghost use Rattle.feature.specs.Checks.{allBelow};
+ghost use Rattle.status.specs.Checks.{allBelow};
 ghost use Rattle.matrix.specs.Rows.{rowsOf};
 ghost use Rattle.rt_matrix.specs.Cells.{absent, decode};
 ghost use Rattle.retention_alignment.specs.Observation.{observations, maxRts, smaller, minRts};

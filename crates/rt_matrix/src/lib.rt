@@ -5,7 +5,7 @@ ghost use mathlib.Core.Path.{_≡_};
 ghost use mathlib.Core.List.{map};
 ghost use Prim.Native.Nat.{_*_, _<_, _≤_, _^_};
 ghost use lib.ListN.{length};
-ghost use Rattle.feature.specs.Checks.{maxFiles};
+ghost use Rattle.status.specs.Limits.{maxFiles};
 ghost use Rattle.matrix.specs.Rows.{rowsOf};
 ghost use Rattle.rt_matrix.specs.Line.{finiteOr, lineOf, lines};
 ghost use Rattle.rt_matrix.specs.Cells.{decode, sumsOf, recordsOf, recordsFrom, Sized, Fresh};
@@ -14,7 +14,7 @@ mod mean;
 mod squares;
 mod sums;
 
-use feature::MAX_FILES;
+use status::MAX_FILES;
 pub use mean::ABSENT;
 use sums::Sums;
 

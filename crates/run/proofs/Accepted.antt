@@ -8,9 +8,11 @@ use lib.Dec.{eqb, leb}
 use lib.Ieee.{Float}
 use lib.ListN.{length, getD}
 use borrow.Author.Tests.{eq-eqb, le-leb, leb-true}
-use Rattle.feature.specs.Checks.{every, lengthsAgree, withinLimits, withinRowLimits, allBelow, maxRows, maxPeptides}
-use Rattle.feature.specs.Status.{accepted, tooShort}
-use Rattle.feature.proofs.Laws.{and-true, every-at, length-at, Limits, limits}
+use Rattle.status.specs.Checks.{every, lengthsAgree, allBelow}
+use Rattle.status.specs.Limits.{withinLimits, withinRowLimits, maxRows, maxPeptides}
+use Rattle.status.specs.Status.{accepted, tooShort}
+use Rattle.status.proofs.Laws.{and-true, length-at, Limits, limits}
+use Rattle.status.proofs.First.{passed-at}
 use Rattle.feature.proofs.Training.{Columns}
 use Rattle.peptide.specs.Table.{offsetsRight, lettersRight, tableStatus}
 use Rattle.peptide.proofs.Laws.{status-by}
@@ -20,7 +22,7 @@ use Rattle.embedding.specs.Design.{orderOf}
 use Rattle.embedding.specs.declared.Model.{Model}
 use Rattle.embedding.specs.declared.Model.the-variants.{Retention, Mobility}
 use Rattle.model_fit.specs.Input.{Input as ModelInput, inputOf, columnsAgree as modelColumns, lengthsRight, fitRoom, workspaceCells, statusOf}
-use Rattle.model_fit.proofs.Status.{status-is, passed-all}
+use Rattle.model_fit.proofs.Status.{status-is}
 use Rattle.models.specs.Call.{predictRoom, predictStatus}
 use Rattle.run.specs.Call.{Input, Slices, peptides, columnsAgree, neededCells, longEnough, roomOf, checks, statusBy, status}
 use Rattle.run.specs.declared.checks.Room.{Room}
@@ -82,7 +84,7 @@ pub record Passed (i : Input) (room : Room) : Type 0 where
 module _ (i : Input) (room : Room) (accept : statusBy i room ≡ accepted) where
   check-at : (k : ℕ) → k < 7 → getD (checks i room) k (0, true) .1 ≡ true
   unfolding statusBy every
-  check-at k h = every-at (λ (c : ℕ × Bool). c .1) (checks i room) k (0, true) (passed-all (checks i room) refl accept) h
+  check-at k h = passed-at (checks i room) k refl accept h
 
   pub passed : Passed i room
   passed =

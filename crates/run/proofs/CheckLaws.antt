@@ -9,8 +9,9 @@ use native.Mathlib.Omega.{arith}
 use lib.Dec.{leb, eqb}
 use borrow.Author.Tests.{le-leb, lt-leb}
 use lib.ListN.{length}
-use Rattle.feature.specs.Checks.{every, lengthsAgree, withinLimits, allBelow}
-use Rattle.feature.specs.Status.{accepted, badLengths, pastLimit, tooShort, badFile, badPeptide, firstFailing}
+use Rattle.status.specs.Checks.{every, lengthsAgree, allBelow}
+use Rattle.status.specs.Limits.{withinLimits}
+use Rattle.status.specs.Status.{accepted, badLengths, pastLimit, tooShort, badFile, badPeptide, firstFailing}
 use Rattle.peptide.specs.Table.{tableStatus}
 use Rattle.peptide.proofs.Laws.{table-first}
 use Rattle.run.specs.Call.{Input, peptides, columnsAgree, longEnough, statusBy}

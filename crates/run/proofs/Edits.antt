@@ -8,7 +8,7 @@ use lib.ListN.{length, getD, take, drop, take-append-drop}
 use lib.Seq.{drop-cons}
 use borrow.Author.Tests.{ltb-true, not-true}
 use Rattle.feature.specs.Feature.{Row, rowTrains, training}
-use Rattle.feature.proofs.Laws.{and-true}
+use Rattle.status.proofs.Laws.{and-true}
 use Rattle.run.specs.Edits.{Edit, rewriteRow, addRow, removeRow, moveRow, noRow, rowAt, withRow, withoutRow, edited, outside, outsideAt, touchesOutside, editedBy, touchOutside}
 
 -- ---- the training rows of two lists, and of a list with a row outside before it

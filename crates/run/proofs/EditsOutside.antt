@@ -12,7 +12,7 @@ use lib.Ieee.{Float, nan}
 use lib.ListN.{length, getD, take, drop, length-map, List·getD-append}
 use lib.Seq.{take-at}
 use Rattle.feature.specs.Feature.{Row, training}
-use Rattle.feature.specs.Status.{accepted}
+use Rattle.status.specs.Status.{accepted}
 use Rattle.peptide.specs.Table.{Table}
 use Rattle.embedding.specs.Design.{orderOf}
 use Rattle.embedding.specs.declared.Model.{Model}
@@ -44,9 +44,9 @@ module _ {A : Type 0} (whole new old : List A) (e : whole ≡ overwritten new ol
 -- ---- an end wrote what the definition gives
 
 module _ (e : End) where
-  all-filled : slicesAfter (e .input) (e .before) ≡ filled (e .input) (e .before)
+  after-is : e .after ≡ filled (e .input) (e .before)
   unfolding slicesAfter
-  all-filled = ap (λ (s : ℕ). cond (eqb s accepted) (filled (e .input) (e .before)) (e .before)) (e .unrefused)
+  after-is = e .contract .slices ∙ ap (λ (s : ℕ). cond (eqb s accepted) (filled (e .input) (e .before)) (e .before)) (e .unrefused)
 
   answer-is : e .answer ≡ Ran (definition e .retention .outcome) (definition e .mobility .outcome)
   unfolding answerOf
@@ -65,8 +65,8 @@ module _ (e : End) where
 
   beta-is : (model : Model) → betaOf model (e .after) ≡ overwritten (fitOfModel model (definition e) .beta) (betaOf model (e .before))
   unfolding filled
-  beta-is Retention = e .contract .retentionBeta ∙ ap (λ (s : Slices). s .retentionBeta) all-filled
-  beta-is Mobility = e .contract .mobilityBeta ∙ ap (λ (s : Slices). s .mobilityBeta) all-filled
+  beta-is Retention = ap (λ (s : Slices). s .retention .beta) after-is
+  beta-is Mobility = ap (λ (s : Slices). s .mobility .beta) after-is
 
   beta-count : (model : Model) → isSolved (fitOfModel model (definition e) .outcome) ≡ true → length (fitOfModel model (definition e) .beta) ≡ orderOf model
   unfolding fitted
@@ -77,17 +77,17 @@ module _ (e : End) where
 
   predictions-are : (model : Model) → predictedIn model (e .after) ≡ overwritten (predictionsOf model (e .input)) (predictedIn model (e .before))
   unfolding filled
-  predictions-are Retention = e .contract .retentionPredicted ∙ ap (λ (s : Slices). s .retentionPredicted) all-filled
-  predictions-are Mobility = e .contract .mobilityPredicted ∙ ap (λ (s : Slices). s .mobilityPredicted) all-filled
+  predictions-are Retention = ap (λ (s : Slices). s .retention .predicted) after-is
+  predictions-are Mobility = ap (λ (s : Slices). s .mobility .predicted) after-is
 
   errors-are : (model : Model) → errorIn model (e .after) ≡ overwritten (errorsOf model (e .input)) (errorIn model (e .before))
   unfolding filled
-  errors-are Retention = e .contract .retentionError ∙ ap (λ (s : Slices). s .retentionError) all-filled
-  errors-are Mobility = e .contract .mobilityError ∙ ap (λ (s : Slices). s .mobilityError) all-filled
+  errors-are Retention = ap (λ (s : Slices). s .retention .error) after-is
+  errors-are Mobility = ap (λ (s : Slices). s .mobility .error) after-is
 
   aligned-are : e .after .aligned ≡ overwritten (map (λ (o : RowOutcome). o .aligned) (outcomes (e .input))) (e .before .aligned)
   unfolding filled
-  aligned-are = e .contract .aligned ∙ ap (λ (s : Slices). s .aligned) all-filled
+  aligned-are = ap (λ (s : Slices). s .aligned) after-is
 
   abbrev result : Model → Row → Predicted
   result model = resultBy (e .input .table) (definition e) model
@@ -127,9 +127,9 @@ module _ (e : End) where
   unfolding filled
   by-definition =
       record {
-        maxRt = column-is (λ (r : Alignment). r .«max_rt») (e .after .maxRt) (e .before .maxRt) (e .contract .maxRt ∙ ap (λ (s : Slices). s .maxRt) all-filled);
-        slope = column-is (λ (r : Alignment). r .slope) (e .after .slope) (e .before .slope) (e .contract .slope ∙ ap (λ (s : Slices). s .slope) all-filled);
-        intercept = column-is (λ (r : Alignment). r .intercept) (e .after .intercept) (e .before .intercept) (e .contract .intercept ∙ ap (λ (s : Slices). s .intercept) all-filled);
+        maxRt = column-is (λ (r : Alignment). r .«max_rt») (e .after .maxRt) (e .before .maxRt) (ap (λ (s : Slices). s .maxRt) after-is);
+        slope = column-is (λ (r : Alignment). r .slope) (e .after .slope) (e .before .slope) (ap (λ (s : Slices). s .slope) after-is);
+        intercept = column-is (λ (r : Alignment). r .intercept) (e .after .intercept) (e .before .intercept) (ap (λ (s : Slices). s .intercept) after-is);
         answer = answer-is;
         beta = λ model h. front (betaOf model (e .after)) (fitOfModel model (definition e) .beta) (betaOf model (e .before)) (beta-is model) (orderOf model) (beta-count model (solved-is model h));
         aligned = aligned-at;

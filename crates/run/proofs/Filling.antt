@@ -12,10 +12,11 @@ use lib.Ieee.{Float}
 use lib.ListN.{length, take, drop, replicate, length-map, length-replicate, replicate-append-replicate, drop-of-length-le}
 use lib.Seq.{take-at, drop-at, length-take-le, drop-append-add, drop-drop}
 use borrow.Author.Tests.{eq-eqb, ne-eqb, le-leb}
+use Rattle.params.specs.Slice.{change}
 use Rattle.float.specs.Number.{zero64}
 use Rattle.feature.specs.Feature.{Row, training, mask, kept}
-use Rattle.feature.specs.Checks.{every}
-use Rattle.feature.specs.Status.{accepted}
+use Rattle.status.specs.Checks.{every}
+use Rattle.status.specs.Status.{accepted}
 use Rattle.feature.proofs.Training.{Fields}
 use Rattle.peptide.specs.Table.{Table}
 use Rattle.rt_matrix.specs.declared.Alignment.{Alignment}
@@ -30,7 +31,7 @@ use Rattle.model_fit.specs.Input.{Input as ModelInput, Query, inputOf, tableOf,
 use Rattle.model_fit.specs.Samples.{fitOn, sampleOf}
 use Rattle.matrix.specs.Lists.{overwritten}
 use Rattle.models.specs.Prediction.{predictions, errors, errorOf, isSolved, predictionOf}
-use Rattle.models.specs.Call.{PredictCall, predictStatus}
+use Rattle.models.specs.Call.{PredictSlices, PredictCall, predictStatus}
 use Rattle.models.specs.declared.FitAnswer.{FitAnswer}
 use Rattle.run.specs.Fitted.{RowOutcome, rowQuery, rowSample, target, fitTo, recordsOf, fitted, fitOfModel, outcome}
 use Rattle.run.specs.Call.{Input, Slices, rows, peptides, neededCells, roomOf, fittedBy, outcomes, predictionsOf, errorsOf, outcomeOf, answerOf, toldOf, toldRefused, toldBy, filled, Filled, slicesAfter, RunCall, status}
@@ -71,6 +72,13 @@ module _ (i : Input) (s : Slices) (p : Passed i (roomOf s)) where
 
   abbrev pub mobilityInput : ModelInput
   mobilityInput = inputOf (i .peptide) (i .label) (i .q) (i .charge) (i .mobility) (i .table .letters) (i .table .offsets) (i .table .masses) []
+
+  -- and the slices that they get, with the workspace as it then is
+  abbrev pub retentionSlices : (workspace : List Float) → PredictSlices
+  retentionSlices workspace = record { workspace = workspace; beta = s .retention .beta; predicted = s .retention .predicted; error = s .retention .error }
+
+  abbrev pub mobilitySlices : (workspace : List Float) → PredictSlices
+  mobilitySlices workspace = record { workspace = workspace; beta = s .mobility .beta; predicted = s .mobility .predicted; error = s .mobility .error }
 
   row-count : length (rows i) ≡ length (i .file)
   row-count = sym (length-map (rows i) (λ (r : Row). r .file)) ∙ ap length (fields i (p .columns) .files-are)
@@ -129,82 +137,78 @@ module _ (i : Input) (s : Slices) (p : Passed i (roomOf s)) where
   -- ---- the models accept
 
   retention-accepts : (observed ws : List Float) → length observed ≡ length (i .file) → length ws ≡ length (s .workspace)
-      → predictStatus Retention (retentionInput observed) ws (s .retentionBeta) (s .retentionPredicted) (s .retentionError) ≡ accepted
+      → predictStatus Retention (retentionInput observed) (retentionSlices ws) ≡ accepted
   unfolding modelColumns every
   retention-accepts observed ws e w =
       let k = p .columns in
       let l = p .long in
       model-accepts i (roomOf s) p Retention (retentionInput observed) _ refl refl refl refl
       (rw (eq-eqb (length (i .label)) (length (i .peptide)) (k .labels-long ∙ sym (k .peptides-long)), eq-eqb (length (i .q)) (length (i .peptide)) (k .qs-long ∙ sym (k .peptides-long)), eq-eqb (length observed) (length (i .peptide)) (e ∙ sym (k .peptides-long)), eq-eqb (length (i .table .logs)) (length (i .table .masses)) (p .logs)) refl)
-      (rw (le-leb 9660 (length ws) (omega (arith, l .fit-cells)), le-leb 69 (length (s .retentionBeta)) (l .retention-beta), le-leb (length (i .peptide)) (length (s .retentionPredicted)) (omega (arith, l .retention-predicted, k .peptides-long)), le-leb (length (i .peptide)) (length (s .retentionError)) (omega (arith, l .retention-error, k .peptides-long))) refl)
+      (rw (le-leb 9660 (length ws) (omega (arith, l .fit-cells)), le-leb 69 (length (s .retention .beta)) (l .retention-beta), le-leb (length (i .peptide)) (length (s .retention .predicted)) (omega (arith, l .retention-predicted, k .peptides-long)), le-leb (length (i .peptide)) (length (s .retention .error)) (omega (arith, l .retention-error, k .peptides-long))) refl)
 
   mobility-accepts : (ws : List Float) → length ws ≡ length (s .workspace)
-      → predictStatus Mobility mobilityInput ws (s .mobilityBeta) (s .mobilityPredicted) (s .mobilityError) ≡ accepted
+      → predictStatus Mobility mobilityInput (mobilitySlices ws) ≡ accepted
   unfolding modelColumns every
   mobility-accepts ws w =
       let k = p .columns in
       let l = p .long in
       model-accepts i (roomOf s) p Mobility mobilityInput _ refl refl refl refl
       (rw (eq-eqb (length (i .label)) (length (i .peptide)) (k .labels-long ∙ sym (k .peptides-long)), eq-eqb (length (i .q)) (length (i .peptide)) (k .qs-long ∙ sym (k .peptides-long)), eq-eqb (length (i .charge)) (length (i .peptide)) (k .charges-long ∙ sym (k .peptides-long)), eq-eqb (length (i .mobility)) (length (i .peptide)) (k .mobilities-long ∙ sym (k .peptides-long))) refl)
-      (rw (le-leb 20200 (length ws) (omega (arith, l .fit-cells)), le-leb 100 (length (s .mobilityBeta)) (l .mobility-beta), le-leb (length (i .peptide)) (length (s .mobilityPredicted)) (omega (arith, l .mobility-predicted, k .peptides-long)), le-leb (length (i .peptide)) (length (s .mobilityError)) (omega (arith, l .mobility-error, k .peptides-long))) refl)
+      (rw (le-leb 20200 (length ws) (omega (arith, l .fit-cells)), le-leb 100 (length (s .mobility .beta)) (l .mobility-beta), le-leb (length (i .peptide)) (length (s .mobility .predicted)) (omega (arith, l .mobility-predicted, k .peptides-long)), le-leb (length (i .peptide)) (length (s .mobility .error)) (omega (arith, l .mobility-error, k .peptides-long))) refl)
 
   -- ---- all together
 
-  -- the alignment left t, retention's call w₁ and its outputs, mobility's w₂ and its outputs
-  pub run-filled : (t : AlignSlices) (answer : AlignAnswer) → Aligned (alignInput i) (alignSlices s) t answer → length (t .workspace) ≡ length (s .workspace) → length (t .aligned) ≡ length (s .aligned)
-      → (w₁ b₁ p₁ e₁ : List Float) (r₁ : FitAnswer) → PredictCall Retention (retentionInput (take (length (i .file)) (t .aligned))) (t .workspace) w₁ (s .retentionBeta) b₁ (s .retentionPredicted) p₁ (s .retentionError) e₁ r₁
-      → length w₁ ≡ length (s .workspace)
-      → (w₂ b₂ p₂ e₂ : List Float) (r₂ : FitAnswer) → PredictCall Mobility mobilityInput w₁ w₂ (s .mobilityBeta) b₂ (s .mobilityPredicted) p₂ (s .mobilityError) e₂ r₂
-      → Filled i s (record {
-        workspace = w₂;
+  -- the alignment left t, retention's call t₁, mobility's t₂
+  pub run-filled : (t : AlignSlices) (answer : AlignAnswer) → Aligned (alignInput i) (change (alignSlices s) t) answer → length (t .workspace) ≡ length (s .workspace) → length (t .aligned) ≡ length (s .aligned)
+      → (t₁ : PredictSlices) (r₁ : FitAnswer) → PredictCall Retention (retentionInput (take (length (i .file)) (t .aligned))) (change (retentionSlices (t .workspace)) t₁) r₁
+      → length (t₁ .workspace) ≡ length (s .workspace)
+      → (t₂ : PredictSlices) (r₂ : FitAnswer) → PredictCall Mobility mobilityInput (change (mobilitySlices (t₁ .workspace)) t₂) r₂
+      → Filled i (change s (record {
+        workspace = t₂ .workspace;
         maxRt = t .maxRt;
         slope = t .slope;
         intercept = t .intercept;
         aligned = t .aligned;
-        retentionBeta = b₁;
-        retentionPredicted = p₁;
-        retentionError = e₁;
-        mobilityBeta = b₂;
-        mobilityPredicted = p₂;
-        mobilityError = e₂;
-      }) (Ran (outcomeOf r₁) (outcomeOf r₂))
+        retention = record { beta = t₁ .beta; predicted = t₁ .predicted; error = t₁ .error };
+        mobility = record { beta = t₂ .beta; predicted = t₂ .predicted; error = t₂ .error };
+      })) (Ran (outcomeOf r₁) (outcomeOf r₂))
   unfolding filled
-  run-filled t answer c lw la w₁ b₁ p₁ e₁ r₁ c₁ l₁ w₂ b₂ p₂ e₂ r₂ c₂ =
+  run-filled t answer c lw la t₁ r₁ c₁ l₁ t₂ r₂ c₂ =
       let n : ℕ = length (i .file) in
       let a : AlignPart i s t = align-part i s p t answer c in
       let o = targets-written t a in
-      let x : ModelPart Retention i (t .workspace) w₁ (s .retentionBeta) b₁ (s .retentionPredicted) p₁ (s .retentionError) e₁ r₁ =
-      model-part Retention i (retentionInput (take n (t .aligned))) (t .workspace) w₁ (s .retentionBeta) b₁ (s .retentionPredicted) p₁ (s .retentionError) e₁ r₁
+      let x : ModelPart Retention i (retentionSlices (t .workspace)) t₁ r₁ =
+      model-part Retention i (retentionInput (take n (t .aligned))) (retentionSlices (t .workspace)) t₁ r₁
       (retention-accepts (take n (t .aligned)) (t .workspace) (length-take-le n (t .aligned) (omega (arith, p .long .aligned))) lw)
       (retention-fit (take n (t .aligned)) o)
       (retention-predictions (take n (t .aligned)) o ∙ predictions-written Retention (i .table) (fittedBy i) (rows i))
       (retention-errors (take n (t .aligned)) o)
       c₁ in
-      let y : ModelPart Mobility i w₁ w₂ (s .mobilityBeta) b₂ (s .mobilityPredicted) p₂ (s .mobilityError) e₂ r₂ =
-      model-part Mobility i mobilityInput w₁ w₂ (s .mobilityBeta) b₂ (s .mobilityPredicted) p₂ (s .mobilityError) e₂ r₂ (mobility-accepts w₁ l₁) mobility-fit (mobility-predicted ∙ predictions-written Mobility (i .table) (fittedBy i) (rows i)) mobility-errors c₂ in
+      let y : ModelPart Mobility i (mobilitySlices (t₁ .workspace)) t₂ r₂ =
+      model-part Mobility i mobilityInput (mobilitySlices (t₁ .workspace)) t₂ r₂ (mobility-accepts (t₁ .workspace) l₁) mobility-fit (mobility-predicted ∙ predictions-written Mobility (i .table) (fittedBy i) (rows i)) mobility-errors c₂ in
       let cells : ℕ = peptides i * i .files in
+      let workspace-is : t₂ .workspace ≡ filled i s .workspace =
+      y .workspace
+      ∙ ap (overwritten (replicate 20200 zero64)) (x .workspace ∙ ap (overwritten (replicate 9660 zero64)) (a .workspace) ∙ zeroed-twice zero64 9660 cells (s .workspace))
+      ∙ zeroed-twice zero64 20200 (max 9660 cells) (s .workspace)
+      ∙ ap (λ (k : ℕ). overwritten (replicate k zero64) (s .workspace)) {x = max 20200 (max 9660 cells)} {y = max cells 20200} (omega arith) in
       record {
         answer = ap (λ (u : FitAnswer). Ran (outcomeOf u) (outcomeOf r₂)) (x .answer) ∙ ap (λ (u : FitAnswer). Ran (fittedBy i .retention .outcome) (outcomeOf u)) (y .answer);
-        workspace =
-            y .workspace
-            ∙ ap (overwritten (replicate 20200 zero64)) (x .workspace ∙ ap (overwritten (replicate 9660 zero64)) (a .workspace) ∙ zeroed-twice zero64 9660 cells (s .workspace))
-            ∙ zeroed-twice zero64 20200 (max 9660 cells) (s .workspace)
-            ∙ ap (λ (k : ℕ). overwritten (replicate k zero64) (s .workspace)) {x = max 20200 (max 9660 cells)} {y = max cells 20200} (omega arith);
-        maxRt = a .maxRt;
-        slope = a .slope;
-        intercept = a .intercept;
-        aligned = a .aligned;
-        retentionBeta = x .beta;
-        retentionPredicted = x .predicted;
-        retentionError = x .error;
-        mobilityBeta = y .beta;
-        mobilityPredicted = y .predicted;
-        mobilityError = y .error;
+        slices = λ k.
+            record {
+              workspace = workspace-is k;
+              maxRt = a .maxRt k;
+              slope = a .slope k;
+              intercept = a .intercept k;
+              aligned = a .aligned k;
+              retention = record { beta = x .beta k; predicted = x .predicted k; error = x .error k };
+              mobility = record { beta = y .beta k; predicted = y .predicted k; error = y .error k };
+            };
       }
 
 -- ---- the contract
 
-pub run-refused : (i : Input) (s : Slices) (n : ℕ) → n ≡ status i s → (n ≡ 0 → ⊥) → RunCall i s s (Refused n)
+pub run-refused : (i : Input) (s : Slices) (n : ℕ) → n ≡ status i s → (n ≡ 0 → ⊥) → RunCall i (change s s) (Refused n)
 unfolding answerOf slicesAfter
 run-refused i s n e h =
     let test : eqb (status i s) accepted ≡ false = ne-eqb (status i s) 0 (λ z. h (e ∙ z)) in
@@ -212,20 +216,10 @@ run-refused i s n e h =
     record {
       answer = ap Refused e ∙ sym (ap (λ (b : Bool). cond b (Ran (fittedBy i .retention .outcome) (fittedBy i .mobility .outcome)) (Refused (status i s))) test);
       told = ap toldRefused e ∙ sym (ap (λ (b : Bool). cond b (toldOf (fittedBy i .retention .outcome) (fittedBy i .mobility .outcome)) (toldRefused (status i s))) test);
-      workspace = ap (λ (t : Slices). t .workspace) same;
-      maxRt = ap (λ (t : Slices). t .maxRt) same;
-      slope = ap (λ (t : Slices). t .slope) same;
-      intercept = ap (λ (t : Slices). t .intercept) same;
-      aligned = ap (λ (t : Slices). t .aligned) same;
-      retentionBeta = ap (λ (t : Slices). t .retentionBeta) same;
-      retentionPredicted = ap (λ (t : Slices). t .retentionPredicted) same;
-      retentionError = ap (λ (t : Slices). t .retentionError) same;
-      mobilityBeta = ap (λ (t : Slices). t .mobilityBeta) same;
-      mobilityPredicted = ap (λ (t : Slices). t .mobilityPredicted) same;
-      mobilityError = ap (λ (t : Slices). t .mobilityError) same;
+      slices = same;
     }
 
-pub run-accepted : (i : Input) (s t : Slices) (r : RunAnswer) → status i s ≡ 0 → Filled i s t r → RunCall i s t r
+pub run-accepted : (i : Input) (s t : Slices) (r : RunAnswer) → status i s ≡ 0 → Filled i (change s t) r → RunCall i (change s t) r
 unfolding answerOf slicesAfter
 run-accepted i s t r e f =
     let test : eqb (status i s) accepted ≡ true = eq-eqb (status i s) 0 e in
@@ -233,15 +227,5 @@ run-accepted i s t r e f =
     record {
       answer = f .answer ∙ sym (ap (λ (b : Bool). cond b (Ran (fittedBy i .retention .outcome) (fittedBy i .mobility .outcome)) (Refused (status i s))) test);
       told = ap toldBy (f .answer) ∙ sym (ap (λ (b : Bool). cond b (toldOf (fittedBy i .retention .outcome) (fittedBy i .mobility .outcome)) (toldRefused (status i s))) test);
-      workspace = f .workspace ∙ ap (λ (u : Slices). u .workspace) now;
-      maxRt = f .maxRt ∙ ap (λ (u : Slices). u .maxRt) now;
-      slope = f .slope ∙ ap (λ (u : Slices). u .slope) now;
-      intercept = f .intercept ∙ ap (λ (u : Slices). u .intercept) now;
-      aligned = f .aligned ∙ ap (λ (u : Slices). u .aligned) now;
-      retentionBeta = f .retentionBeta ∙ ap (λ (u : Slices). u .retentionBeta) now;
-      retentionPredicted = f .retentionPredicted ∙ ap (λ (u : Slices). u .retentionPredicted) now;
-      retentionError = f .retentionError ∙ ap (λ (u : Slices). u .retentionError) now;
-      mobilityBeta = f .mobilityBeta ∙ ap (λ (u : Slices). u .mobilityBeta) now;
-      mobilityPredicted = f .mobilityPredicted ∙ ap (λ (u : Slices). u .mobilityPredicted) now;
-      mobilityError = f .mobilityError ∙ ap (λ (u : Slices). u .mobilityError) now;
+      slices = f .slices ∙ now;
     }

@@ -7,8 +7,9 @@ use lib.Dec.{eqb}
 use lib.Ieee.{Float, binary64, ofBits}
 use lib.ListN.{length, replicate}
 use Rattle.float.specs.Number.{zero64}
+use Rattle.params.specs.Slice.{change}
 use Rattle.feature.specs.Feature.{Row, rowTrains, training, mask, kept}
-use Rattle.feature.specs.Status.{accepted}
+use Rattle.status.specs.Status.{accepted}
 use Rattle.feature.proofs.Training.{Columns, Fields, fields-rowsFrom, mask-rowsFrom}
 use Rattle.peptide.specs.Table.{Table}
 use Rattle.rt_matrix.specs.declared.Alignment.{Alignment}
@@ -25,7 +26,7 @@ use Rattle.model_fit.specs.Input.{Input as ModelInput, Query, inputOf, tableOf,
 use Rattle.model_fit.specs.Samples.{fitOn, sampleOf}
 use Rattle.matrix.specs.Lists.{overwritten}
 use Rattle.models.specs.Prediction.{predictions, errors, errorOf, isSolved, predictionOf}
-use Rattle.models.specs.Call.{PredictCall, predictStatus, answerOf, workspaceAfter, outputAfter}
+use Rattle.models.specs.Call.{PredictSlices, PredictCall, predictStatus, predictFilled, answerOf, ifAccepted}
 use Rattle.models.specs.declared.FitAnswer.{FitAnswer}
 use Rattle.models.specs.declared.FitAnswer.the-variants.{Fitted}
 use Rattle.run.specs.Fitted.{Predicted, RowOutcome, obsOf, rowQuery, target, longest, recordsOf, fitted, fitOfModel, outcome}
@@ -86,35 +87,36 @@ module _ (i : Input) (s : Slices) (p : Passed i (roomOf s)) where
   unfolding alignAfter
   align-filled = ap (λ (n : ℕ). cond (eqb n accepted) (alignFilled (alignInput i) (alignSlices s)) (alignSlices s)) (align-accepts i (roomOf s) p)
 
-  pub align-part : (t : AlignSlices) (r : AlignAnswer) → Aligned (alignInput i) (alignSlices s) t r → AlignPart i s t
+  pub align-part : (t : AlignSlices) (r : AlignAnswer) → Aligned (alignInput i) (change (alignSlices s) t) r → AlignPart i s t
   unfolding alignFilled
   align-part t r c =
+      let after-is : t ≡ alignFilled (alignInput i) (alignSlices s) = c .slices ∙ align-filled in
       record {
-        workspace = c .workspace ∙ ap (λ (x : AlignSlices). x .workspace) align-filled;
-        maxRt = c .maxRt ∙ ap (λ (x : AlignSlices). x .maxRt) align-filled ∙ ap (λ (a : List Alignment). overwritten (map (λ (x : Alignment). x .«max_rt») a) (s .maxRt)) records-are;
-        slope = c .slope ∙ ap (λ (x : AlignSlices). x .slope) align-filled ∙ ap (λ (a : List Alignment). overwritten (map (λ (x : Alignment). x .slope) a) (s .slope)) records-are;
-        intercept = c .intercept ∙ ap (λ (x : AlignSlices). x .intercept) align-filled ∙ ap (λ (a : List Alignment). overwritten (map (λ (x : Alignment). x .intercept) a) (s .intercept)) records-are;
-        aligned = c .aligned ∙ ap (λ (x : AlignSlices). x .aligned) align-filled ∙ ap (λ (x : List Float). overwritten x (s .aligned)) aligned-are;
+        workspace = ap (λ (x : AlignSlices). x .workspace) after-is;
+        maxRt = ap (λ (x : AlignSlices). x .maxRt) after-is ∙ ap (λ (a : List Alignment). overwritten (map (λ (x : Alignment). x .«max_rt») a) (s .maxRt)) records-are;
+        slope = ap (λ (x : AlignSlices). x .slope) after-is ∙ ap (λ (a : List Alignment). overwritten (map (λ (x : Alignment). x .slope) a) (s .slope)) records-are;
+        intercept = ap (λ (x : AlignSlices). x .intercept) after-is ∙ ap (λ (a : List Alignment). overwritten (map (λ (x : Alignment). x .intercept) a) (s .intercept)) records-are;
+        aligned = ap (λ (x : AlignSlices). x .aligned) after-is ∙ ap (λ (x : List Float). overwritten x (s .aligned)) aligned-are;
       }
 
 -- ---- a model
 
-pub record ModelPart (model : Model) (i : Input) (workspace₀ workspace₁ beta₀ beta₁ predicted₀ predicted₁ error₀ error₁ : List Float) (r : FitAnswer) : Type 0 where
+pub record ModelPart (model : Model) (i : Input) (s t : PredictSlices) (r : FitAnswer) : Type 0 where
   pub answer : r ≡ Fitted (fitOfModel model (fittedBy i) .outcome)
-  pub workspace : workspace₁ ≡ overwritten (replicate (workspaceCells (orderOf model)) zero64) workspace₀
-  pub beta : beta₁ ≡ overwritten (fitOfModel model (fittedBy i) .beta) beta₀
-  pub predicted : predicted₁ ≡ overwritten (predictionsOf model i) predicted₀
-  pub error : error₁ ≡ overwritten (errorsOf model i) error₀
+  pub workspace : t .workspace ≡ overwritten (replicate (workspaceCells (orderOf model)) zero64) (s .workspace)
+  pub beta : t .beta ≡ overwritten (fitOfModel model (fittedBy i) .beta) (s .beta)
+  pub predicted : t .predicted ≡ overwritten (predictionsOf model i) (s .predicted)
+  pub error : t .error ≡ overwritten (errorsOf model i) (s .error)
 
-module _ (model : Model) (i : Input) (m : ModelInput) (workspace₀ workspace₁ beta₀ beta₁ predicted₀ predicted₁ error₀ error₁ : List Float) (r : FitAnswer)
-    (accept : predictStatus model m workspace₀ beta₀ predicted₀ error₀ ≡ accepted)
+module _ (model : Model) (i : Input) (m : ModelInput) (s t : PredictSlices) (r : FitAnswer) (accept : predictStatus model m s ≡ accepted)
     (fit : fitOn model m ≡ fitOfModel model (fittedBy i)) (predictions-are : predictions model m ≡ predictionsOf model i) (errors-are : errors model m ≡ errorsOf model i) where
-  pub model-part : PredictCall model m workspace₀ workspace₁ beta₀ beta₁ predicted₀ predicted₁ error₀ error₁ r → ModelPart model i workspace₀ workspace₁ beta₀ beta₁ predicted₀ predicted₁ error₀ error₁ r
+  pub model-part : PredictCall model m (change s t) r → ModelPart model i s t r
   model-part c =
+      let after-is : t ≡ predictFilled model m s = c .slices ∙ ap (λ (n : ℕ). ifAccepted n (predictFilled model m s) s) accept in
       record {
         answer = c .answer ∙ ap (λ (n : ℕ). answerOf n (fitOn model m)) accept ∙ ap (λ (f : Fit). Fitted (f .outcome)) fit;
-        workspace = c .workspace ∙ ap (λ (n : ℕ). workspaceAfter n model workspace₀) accept;
-        beta = c .beta ∙ ap (λ (n : ℕ). outputAfter n (fitOn model m .beta) beta₀) accept ∙ ap (λ (f : Fit). overwritten (f .beta) beta₀) fit;
-        predicted = c .predicted ∙ ap (λ (n : ℕ). outputAfter n (predictions model m) predicted₀) accept ∙ ap (λ (x : List Float). overwritten x predicted₀) predictions-are;
-        error = c .error ∙ ap (λ (n : ℕ). outputAfter n (errors model m) error₀) accept ∙ ap (λ (x : List Float). overwritten x error₀) errors-are;
+        workspace = ap (λ (x : PredictSlices). x .workspace) after-is;
+        beta = ap (λ (x : PredictSlices). x .beta) after-is ∙ ap (λ (f : Fit). overwritten (f .beta) (s .beta)) fit;
+        predicted = ap (λ (x : PredictSlices). x .predicted) after-is ∙ ap (λ (x : List Float). overwritten x (s .predicted)) predictions-are;
+        error = ap (λ (x : PredictSlices). x .error) after-is ∙ ap (λ (x : List Float). overwritten x (s .error)) errors-are;
       }

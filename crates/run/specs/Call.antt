@@ -8,10 +8,13 @@ use lib.Dec.{eqb, leb}
 use lib.IntN.{ℤ}
 use lib.Ieee.{Float}
 use lib.ListN.{length, replicate}
+use denote.Ref.{now}
+use Rattle.params.specs.Slice.{Held, Change, change, Slice}
 use Rattle.float.specs.Number.{zero64}
 use Rattle.feature.specs.Feature.{Row, rowsFrom, training}
-use Rattle.feature.specs.Checks.{allBelow, lengthsAgree, withinLimits}
-use Rattle.feature.specs.Status.{accepted, badLengths, pastLimit, tooShort, badOffsets, badLetter, badFile, badPeptide, firstFailing}
+use Rattle.status.specs.Checks.{allBelow, lengthsAgree}
+use Rattle.status.specs.Limits.{withinLimits}
+use Rattle.status.specs.Status.{accepted, badLengths, pastLimit, tooShort, badOffsets, badLetter, badFile, badPeptide, firstFailing}
 use Rattle.peptide.specs.Table.{Table, offsetsRight, lettersRight}
 use Rattle.embedding.specs.Design.{orderOf}
 use Rattle.embedding.specs.declared.Model.{Model}
@@ -21,11 +24,11 @@ use Rattle.rt_matrix.specs.declared.Alignment.{Alignment}
 use Rattle.regression.specs.Regression.{Values, valuesOf, statusOf as outcomeStatus}
 use Rattle.regression.specs.declared.FitOutcome.{FitOutcome}
 use Rattle.regression.specs.declared.FitOutcome.the-variants.{NotSolved}
-use Rattle.model_fit.specs.Input.{workspaceCells}
+use Rattle.model_fit.specs.Input.{tableOf, workspaceCells}
 use Rattle.matrix.specs.Lists.{overwritten}
 use Rattle.models.specs.declared.FitAnswer.{FitAnswer}
 use Rattle.models.specs.declared.FitAnswer.the-variants.{Fitted, Refused as NoFit}
-use Rattle.run.specs.Fitted.{Fitted as FittedNumbers, Predicted, RowOutcome, longest, fitted, outcome}
+use Rattle.run.specs.Fitted.{Fitted as FittedNumbers, Predicted, RowOutcome, longest, fitted, fitOfModel, outcome}
 use Rattle.run.specs.declared.checks.Room.{Room}
 use Rattle.run.specs.declared.RunAnswer.{RunAnswer}
 use Rattle.run.specs.declared.RunAnswer.the-variants.{Ran, Refused}
@@ -42,20 +45,69 @@ pub record Input : Type 0 where
   pub files : ℕ
   pub table : Table
 
--- what is written: the workspace; a cell of three outputs for each file; an aligned time for each row; and for each model its coefficients, and
--- a prediction and an error for each row
+-- what is written of a model: its coefficients, and a prediction and an error for each row
+pub record ModelSlices : Type 0 where
+  pub beta : List Float
+  pub predicted : List Float
+  pub error : List Float
+
+-- what is written: the workspace; a cell of three outputs for each file; an aligned time for each row; and what is written of each model
 pub record Slices : Type 0 where
   pub workspace : List Float
   pub maxRt : List Float
   pub slope : List Float
   pub intercept : List Float
   pub aligned : List Float
-  pub retentionBeta : List Float
-  pub retentionPredicted : List Float
-  pub retentionError : List Float
-  pub mobilityBeta : List Float
-  pub mobilityPredicted : List Float
-  pub mobilityError : List Float
+  pub retention : ModelSlices
+  pub mobility : ModelSlices
+
+-- ---- as a function's parameters hold them
+
+-- in a `requires`
+abbrev pub inputAt : (file peptide : Held ℕ) (label : Held ℤ) (q rt : Held Float) (charge : Held ℕ) (mobility : Held Float) (files : ℕ) (letters offsets : Held ℕ) (masses logs : Held Float) → Input
+inputAt file peptide label q rt charge mobility files letters offsets masses logs =
+    record {
+      file = now file;
+      peptide = now peptide;
+      label = now label;
+      q = now q;
+      rt = now rt;
+      charge = now charge;
+      mobility = now mobility;
+      files = files;
+      table = tableOf (now letters) (now offsets) (now masses) (now logs);
+    }
+
+abbrev pub modelAt : (beta predicted error : Held Float) → ModelSlices
+modelAt beta predicted error = record { beta = now beta; predicted = now predicted; error = now error }
+
+abbrev pub slicesAt : (workspace maxRt slope intercept aligned : Held Float) (retention mobility : ModelSlices) → Slices
+slicesAt workspace maxRt slope intercept aligned retention mobility =
+    record {
+      workspace = now workspace;
+      maxRt = now maxRt;
+      slope = now slope;
+      intercept = now intercept;
+      aligned = now aligned;
+      retention = retention;
+      mobility = mobility;
+    }
+
+-- in an `ensures`: what is read as the call begins, and what is written as it begins and as it returns
+abbrev pub inputOf : (file peptide : Slice ℕ) (label : Slice ℤ) (q rt : Slice Float) (charge : Slice ℕ) (mobility : Slice Float) (files : ℕ) (letters offsets : Slice ℕ) (masses logs : Slice Float) → Input
+inputOf file peptide label q rt charge mobility files letters offsets masses logs =
+    inputAt (file .entry) (peptide .entry) (label .entry) (q .entry) (rt .entry) (charge .entry) (mobility .entry) files (letters .entry) (offsets .entry) (masses .entry) (logs .entry)
+
+abbrev pub modelOf : (beta predicted error : Slice Float) → Change ModelSlices
+modelOf beta predicted error = change (modelAt (beta .entry) (predicted .entry) (error .entry)) (modelAt (beta .exit) (predicted .exit) (error .exit))
+
+abbrev pub slicesOf : (workspace maxRt slope intercept aligned : Slice Float) (retention mobility : Change ModelSlices) → Change Slices
+slicesOf workspace maxRt slope intercept aligned retention mobility =
+    change
+    (slicesAt (workspace .entry) (maxRt .entry) (slope .entry) (intercept .entry) (aligned .entry) (retention .entry) (mobility .entry))
+    (slicesAt (workspace .exit) (maxRt .exit) (slope .exit) (intercept .exit) (aligned .exit) (retention .exit) (mobility .exit))
+
+-- ---- what is read
 
 abbrev pub rows : Input → List Row
 rows i = rowsFrom (i .file) (i .peptide) (i .label) (i .q) (i .rt) (i .charge) (i .mobility)
@@ -93,12 +145,12 @@ roomOf s =
       slope = length (s .slope);
       intercept = length (s .intercept);
       aligned = length (s .aligned);
-      «retention_beta» = length (s .retentionBeta);
-      «retention_predicted» = length (s .retentionPredicted);
-      «retention_error» = length (s .retentionError);
-      «mobility_beta» = length (s .mobilityBeta);
-      «mobility_predicted» = length (s .mobilityPredicted);
-      «mobility_error» = length (s .mobilityError);
+      «retention_beta» = length (s .retention .beta);
+      «retention_predicted» = length (s .retention .predicted);
+      «retention_error» = length (s .retention .error);
+      «mobility_beta» = length (s .mobility .beta);
+      «mobility_predicted» = length (s .mobility .predicted);
+      «mobility_error» = length (s .mobility .error);
     }
 
 -- 1, 2, 3, 7, 6, 4, 5
@@ -175,7 +227,16 @@ predictionsOf model i = map (λ (p : Predicted). p .prediction) (predictedOf mod
 abbrev pub errorsOf : Model → Input → List Float
 errorsOf model i = map (λ (p : Predicted). p .error) (predictedOf model i)
 
--- what an accepted call leaves
+-- what an accepted call leaves of a model
+abbrev pub filledModel : Model → Input → ModelSlices → ModelSlices
+filledModel model i s =
+    record {
+      beta = overwritten (fitOfModel model (fittedBy i) .beta) (s .beta);
+      predicted = overwritten (predictionsOf model i) (s .predicted);
+      error = overwritten (errorsOf model i) (s .error);
+    }
+
+-- and of all
 unfoldable pub filled : Input → Slices → Slices
 filled i s =
     record {
@@ -184,12 +245,8 @@ filled i s =
       slope = overwritten (map (λ (a : Alignment). a .slope) (fittedBy i .records)) (s .slope);
       intercept = overwritten (map (λ (a : Alignment). a .intercept) (fittedBy i .records)) (s .intercept);
       aligned = overwritten (map (λ (o : RowOutcome). o .aligned) (outcomes i)) (s .aligned);
-      retentionBeta = overwritten (fittedBy i .retention .beta) (s .retentionBeta);
-      retentionPredicted = overwritten (predictionsOf Retention i) (s .retentionPredicted);
-      retentionError = overwritten (errorsOf Retention i) (s .retentionError);
-      mobilityBeta = overwritten (fittedBy i .mobility .beta) (s .mobilityBeta);
-      mobilityPredicted = overwritten (predictionsOf Mobility i) (s .mobilityPredicted);
-      mobilityError = overwritten (errorsOf Mobility i) (s .mobilityError);
+      retention = filledModel Retention i (s .retention);
+      mobility = filledModel Mobility i (s .mobility);
     }
 
 -- the outcome that an answer carries; one that is refused, which no accepted run gets, counts as not solved
@@ -198,36 +255,16 @@ outcomeOf (Fitted o) = o
 outcomeOf (NoFit n) = NotSolved
 
 -- an accepted call: its answer and every slice
-pub record Filled (i : Input) (before after : Slices) (r : RunAnswer) : Type 0 where
+pub record Filled (i : Input) (s : Change Slices) (r : RunAnswer) : Type 0 where
   pub answer : r ≡ Ran (fittedBy i .retention .outcome) (fittedBy i .mobility .outcome)
-  pub workspace : after .workspace ≡ filled i before .workspace
-  pub maxRt : after .maxRt ≡ filled i before .maxRt
-  pub slope : after .slope ≡ filled i before .slope
-  pub intercept : after .intercept ≡ filled i before .intercept
-  pub aligned : after .aligned ≡ filled i before .aligned
-  pub retentionBeta : after .retentionBeta ≡ filled i before .retentionBeta
-  pub retentionPredicted : after .retentionPredicted ≡ filled i before .retentionPredicted
-  pub retentionError : after .retentionError ≡ filled i before .retentionError
-  pub mobilityBeta : after .mobilityBeta ≡ filled i before .mobilityBeta
-  pub mobilityPredicted : after .mobilityPredicted ≡ filled i before .mobilityPredicted
-  pub mobilityError : after .mobilityError ≡ filled i before .mobilityError
+  pub slices : s .exit ≡ filled i (s .entry)
 
 -- what a call leaves: a refused one every slice as it was
 unfoldable pub slicesAfter : Input → Slices → Slices
 slicesAfter i s = cond (eqb (status i s) accepted) (filled i s) s
 
 -- The contract: the answer, what it tells, and every slice, each cell of it.
-pub record RunCall (i : Input) (before after : Slices) (r : RunAnswer) : Type 0 where
-  pub answer : r ≡ answerOf (status i before) (fittedBy i)
-  pub told : toldBy r ≡ toldFor (status i before) (fittedBy i)
-  pub workspace : after .workspace ≡ slicesAfter i before .workspace
-  pub maxRt : after .maxRt ≡ slicesAfter i before .maxRt
-  pub slope : after .slope ≡ slicesAfter i before .slope
-  pub intercept : after .intercept ≡ slicesAfter i before .intercept
-  pub aligned : after .aligned ≡ slicesAfter i before .aligned
-  pub retentionBeta : after .retentionBeta ≡ slicesAfter i before .retentionBeta
-  pub retentionPredicted : after .retentionPredicted ≡ slicesAfter i before .retentionPredicted
-  pub retentionError : after .retentionError ≡ slicesAfter i before .retentionError
-  pub mobilityBeta : after .mobilityBeta ≡ slicesAfter i before .mobilityBeta
-  pub mobilityPredicted : after .mobilityPredicted ≡ slicesAfter i before .mobilityPredicted
-  pub mobilityError : after .mobilityError ≡ slicesAfter i before .mobilityError
+pub record RunCall (i : Input) (s : Change Slices) (r : RunAnswer) : Type 0 where
+  pub answer : r ≡ answerOf (status i (s .entry)) (fittedBy i)
+  pub told : toldBy r ≡ toldFor (status i (s .entry)) (fittedBy i)
+  pub slices : s .exit ≡ slicesAfter i (s .entry)

@@ -7,8 +7,9 @@ use mathlib.Core.Option.{Option, some}
 use Prim.Native.Nat.{ℕ, _<_}
 use lib.Ieee.{Float, nan}
 use lib.ListN.{length, getD, take}
+use Rattle.params.specs.Slice.{change}
 use Rattle.feature.specs.Feature.{training}
-use Rattle.feature.specs.Status.{accepted}
+use Rattle.status.specs.Status.{accepted}
 use Rattle.embedding.specs.Design.{orderOf}
 use Rattle.embedding.specs.declared.Model.{Model}
 use Rattle.embedding.specs.declared.Model.the-variants.{Retention, Mobility}
@@ -29,21 +30,21 @@ pub record End : Type 0 where
   pub before : Slices
   pub after : Slices
   pub answer : RunAnswer
-  pub contract : RunCall input before after answer
+  pub contract : RunCall input (change before after) answer
   pub unrefused : status input before ≡ accepted
 
 -- what the program wrote for a model: its coefficients, and the predictions and errors of all rows
 abbrev pub betaOf : Model → Slices → List Float
-betaOf Retention s = s .retentionBeta
-betaOf Mobility s = s .mobilityBeta
+betaOf Retention s = s .retention .beta
+betaOf Mobility s = s .mobility .beta
 
 abbrev pub predictedOf : Model → Slices → List Float
-predictedOf Retention s = s .retentionPredicted
-predictedOf Mobility s = s .mobilityPredicted
+predictedOf Retention s = s .retention .predicted
+predictedOf Mobility s = s .mobility .predicted
 
 abbrev pub errorOf : Model → Slices → List Float
-errorOf Retention s = s .retentionError
-errorOf Mobility s = s .mobilityError
+errorOf Retention s = s .retention .error
+errorOf Mobility s = s .mobility .error
 
 -- whether the model fits, as the program answered: "Failure to fit is 8 or 9"
 abbrev pub fits : Model → RunAnswer → Bool

@@ -4,7 +4,7 @@ ghost use mathlib.Core.Bool.{_&&_};
 ghost use mathlib.Core.List.{[], _∷_};
 ghost use Prim.Native.Nat.{_*_};
 ghost use lib.Dec.{leb};
-ghost use Rattle.feature.specs.Checks.{lengthsAgree};
+ghost use Rattle.status.specs.Checks.{lengthsAgree};
 ghost use Rattle.model_fit.specs.Input.{tableOf};
 ghost use Rattle.run.specs.Call.{neededCells, longEnough, statusBy};
 
@@ -37,7 +37,7 @@ fn columns_agree(
 ) -> bool
     ensures { λ r. ⌜ r ≡ (lengthsAgree rows (peptide ∷ label ∷ q ∷ rt ∷ charge ∷ mobility ∷ []) && lengthsAgree peptides (logs ∷ [])) ⌝ }
 {
-    let first = feature::same_lengths(rows, peptide, label, q, rt);
+    let first = status::same_lengths(rows, peptide, label, q, rt);
     let others = (charge == rows) & (mobility == rows);
     first & others & (logs == peptides)
 }
@@ -100,10 +100,10 @@ pub(crate) fn check(
         peptides,
         logs.len(),
     );
-    let limits = feature::limits(files, rows, peptides);
+    let limits = status::limits(files, rows, peptides);
     let long = long_enough(files, peptides, rows, room);
     let table = peptide::check_table(letters, offsets, peptides);
-    let files_right = feature::all_below(file, files);
-    let peptides_right = feature::all_below(peptide, peptides);
-    model_fit::checks::first_failing(lengths, limits, long, table, files_right, peptides_right)
+    let files_right = status::all_below(file, files);
+    let peptides_right = status::all_below(peptide, peptides);
+    status::first_failing(lengths, limits, long, table, files_right, peptides_right)
 }

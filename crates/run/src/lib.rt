@@ -1,9 +1,8 @@
 // A whole run over a batch: the alignment of retention times, the retention fit on the aligned times, the mobility fit, and the predictions and
 // errors of each model that fits.
 ghost use mathlib.Core.Path.{_≡_};
-ghost use Rattle.feature.specs.Status.{accepted};
-ghost use Rattle.model_fit.specs.Input.{tableOf};
-ghost use Rattle.run.specs.Call.{status, outcomeOf, Filled, RunCall};
+ghost use Rattle.status.specs.Status.{accepted};
+ghost use Rattle.run.specs.Call.{inputAt, inputOf, modelAt, slicesAt, modelOf, slicesOf, status, outcomeOf, Filled, RunCall};
 use crate::checks::Room;
 use crate::checks::check;
 use models::FitAnswer;
@@ -59,8 +58,18 @@ fn run_accepted(
     mobility_predicted: &mut [f32],
     mobility_error: &mut [f32],
 ) -> RunAnswer
-    requires { ⌜ status (record { file = now file; peptide = now peptide; label = now label; q = now q; rt = now rt; charge = now charge; mobility = now mobility; files = files; table = tableOf (now letters) (now offsets) (now masses) (now logs) }) (record { workspace = now workspace; maxRt = now «max_rt»; slope = now slope; intercept = now intercept; aligned = now aligned; retentionBeta = now «retention_beta»; retentionPredicted = now «retention_predicted»; retentionError = now «retention_error»; mobilityBeta = now «mobility_beta»; mobilityPredicted = now «mobility_predicted»; mobilityError = now «mobility_error» }) ≡ accepted ⌝ }
-    ensures { λ r. ⌜ Filled (record { file = now (file .entry); peptide = now (peptide .entry); label = now (label .entry); q = now (q .entry); rt = now (rt .entry); charge = now (charge .entry); mobility = now (mobility .entry); files = files; table = tableOf (now (letters .entry)) (now (offsets .entry)) (now (masses .entry)) (now (logs .entry)) }) (record { workspace = now (workspace .entry); maxRt = now («max_rt» .entry); slope = now (slope .entry); intercept = now (intercept .entry); aligned = now (aligned .entry); retentionBeta = now («retention_beta» .entry); retentionPredicted = now («retention_predicted» .entry); retentionError = now («retention_error» .entry); mobilityBeta = now («mobility_beta» .entry); mobilityPredicted = now («mobility_predicted» .entry); mobilityError = now («mobility_error» .entry) }) (record { workspace = now (workspace .exit); maxRt = now («max_rt» .exit); slope = now (slope .exit); intercept = now (intercept .exit); aligned = now (aligned .exit); retentionBeta = now («retention_beta» .exit); retentionPredicted = now («retention_predicted» .exit); retentionError = now («retention_error» .exit); mobilityBeta = now («mobility_beta» .exit); mobilityPredicted = now («mobility_predicted» .exit); mobilityError = now («mobility_error» .exit) }) r ⌝ }
+    requires { ⌜ status
+        (inputAt file peptide label q rt charge mobility files letters offsets masses logs)
+        (slicesAt workspace «max_rt» slope intercept aligned
+        (modelAt «retention_beta» «retention_predicted» «retention_error»)
+        (modelAt «mobility_beta» «mobility_predicted» «mobility_error»))
+        ≡ accepted ⌝ }
+    ensures { λ r. ⌜ Filled
+        (inputOf file peptide label q rt charge mobility files letters offsets masses logs)
+        (slicesOf workspace «max_rt» slope intercept aligned
+        (modelOf «retention_beta» «retention_predicted» «retention_error»)
+        (modelOf «mobility_beta» «mobility_predicted» «mobility_error»))
+        r ⌝ }
 {
     let rows = file.len();
     let peptides = masses.len();
@@ -140,7 +149,12 @@ pub fn run(
     mobility_predicted: &mut [f32],
     mobility_error: &mut [f32],
 ) -> RunAnswer
-    ensures { λ r. ⌜ RunCall (record { file = now (file .entry); peptide = now (peptide .entry); label = now (label .entry); q = now (q .entry); rt = now (rt .entry); charge = now (charge .entry); mobility = now (mobility .entry); files = files; table = tableOf (now (letters .entry)) (now (offsets .entry)) (now (masses .entry)) (now (logs .entry)) }) (record { workspace = now (workspace .entry); maxRt = now («max_rt» .entry); slope = now (slope .entry); intercept = now (intercept .entry); aligned = now (aligned .entry); retentionBeta = now («retention_beta» .entry); retentionPredicted = now («retention_predicted» .entry); retentionError = now («retention_error» .entry); mobilityBeta = now («mobility_beta» .entry); mobilityPredicted = now («mobility_predicted» .entry); mobilityError = now («mobility_error» .entry) }) (record { workspace = now (workspace .exit); maxRt = now («max_rt» .exit); slope = now (slope .exit); intercept = now (intercept .exit); aligned = now (aligned .exit); retentionBeta = now («retention_beta» .exit); retentionPredicted = now («retention_predicted» .exit); retentionError = now («retention_error» .exit); mobilityBeta = now («mobility_beta» .exit); mobilityPredicted = now («mobility_predicted» .exit); mobilityError = now («mobility_error» .exit) }) r ⌝ }
+    ensures { λ r. ⌜ RunCall
+        (inputOf file peptide label q rt charge mobility files letters offsets masses logs)
+        (slicesOf workspace «max_rt» slope intercept aligned
+        (modelOf «retention_beta» «retention_predicted» «retention_error»)
+        (modelOf «mobility_beta» «mobility_predicted» «mobility_error»))
+        r ⌝ }
 {
     let room = Room {
         workspace: workspace.len(),
@@ -170,7 +184,7 @@ pub fn run(
         logs,
         room,
     );
-    if status != feature::ACCEPTED {
+    if status != status::ACCEPTED {
         return RunAnswer::Refused(status);
     }
     run_accepted(

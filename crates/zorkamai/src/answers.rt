@@ -32,12 +32,12 @@ pub(crate) fn of_solve(a: SolveAnswer) -> Answer
 {
     match a {
         SolveAnswer::Solved(ridge) => Answer {
-            status: feature::ACCEPTED,
+            status: status::ACCEPTED,
             ridge,
             r2: 0.0,
             n: 0,
         },
-        SolveAnswer::Unsolved => only(feature::NOT_SOLVED),
+        SolveAnswer::Unsolved => only(status::NOT_SOLVED),
         SolveAnswer::Refused(status) => only(status),
     }
 }
@@ -46,7 +46,7 @@ pub(crate) fn of_align(a: AlignAnswer) -> u8
     ensures { λ r. ⌜ r ≡ ofAlign a ⌝ }
 {
     match a {
-        AlignAnswer::Accepted => feature::ACCEPTED,
+        AlignAnswer::Accepted => status::ACCEPTED,
         AlignAnswer::Refused(status) => status,
     }
 }
@@ -56,13 +56,13 @@ pub(crate) fn of_outcome(o: FitOutcome) -> Answer
 {
     match o {
         FitOutcome::Solved { ridge, r2, n } => Answer {
-            status: feature::ACCEPTED,
+            status: status::ACCEPTED,
             ridge,
             r2,
             n,
         },
-        FitOutcome::NoTrainingRows => only(feature::NO_TRAINING),
-        FitOutcome::NotSolved => only(feature::NOT_SOLVED),
+        FitOutcome::NoTrainingRows => only(status::NO_TRAINING),
+        FitOutcome::NotSolved => only(status::NOT_SOLVED),
     }
 }
 
@@ -83,7 +83,7 @@ pub(crate) fn of_run(a: RunAnswer) -> RunReport
             retention,
             mobility,
         } => RunReport {
-            status: feature::ACCEPTED,
+            status: status::ACCEPTED,
             retention: of_outcome(retention),
             mobility: of_outcome(mobility),
         },
@@ -100,7 +100,7 @@ pub(crate) fn of_found(f: Found) -> RecordAnswer
 {
     match f {
         Found::At(a) => RecordAnswer {
-            status: feature::ACCEPTED,
+            status: status::ACCEPTED,
             max_rt: a.max_rt,
             slope: a.slope,
             intercept: a.intercept,
@@ -119,7 +119,7 @@ pub(crate) fn of_time(t: AlignedTime) -> TimeAnswer
 {
     match t {
         AlignedTime::At(aligned) => TimeAnswer {
-            status: feature::ACCEPTED,
+            status: status::ACCEPTED,
             aligned,
         },
         AlignedTime::Refused(status) => TimeAnswer {

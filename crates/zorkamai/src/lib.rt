@@ -1,17 +1,15 @@
 // The library for hosts: the entry points under C names, but for the align program's `align_text`. A slice is passed as a pointer and a length;
 // an answer is a status of document 01's table, alone or in a struct beside what the call gives. Each function takes whatever is handed in, and
 // does what its entry point does.
-ghost use mathlib.Core.List.{[]};
 ghost use mathlib.Core.Path.{_≡_};
 ghost use Rattle.embedding.specs.declared.Model.{Model};
-ghost use Rattle.gauss.specs.Solve.{Solves};
+ghost use Rattle.gauss.specs.Solve.{systemOf, slicesOf as solveSlices};
 ghost use Rattle.matrix.specs.Cells.{stepOf};
-ghost use Rattle.model_fit.specs.Input.{inputOf, tableOf};
-ghost use Rattle.models.specs.Call.{FitCall, PredictCall};
+ghost use Rattle.models.specs.Call.{retentionInput, mobilityInput, fitSlices, predictSlices};
 ghost use Rattle.records.specs.Record.{recordOf, timeBy};
-ghost use Rattle.retention_alignment.specs.Call.{Aligned};
-ghost use Rattle.run.specs.Call.{RunCall};
-ghost use Rattle.zorkamai.specs.Answers.{ofSolve, ofAlign, ofFit, ofRun, ofFound, ofTime, ofStep, solveAnswer, alignAnswer, fitAnswer, predictAnswer, runAnswer, Exported};
+ghost use Rattle.retention_alignment.specs.Call.{inputOf as alignInput, slicesOf as alignSlices};
+ghost use Rattle.run.specs.Call.{inputOf as runInput, modelOf as runModel, slicesOf as runSlices};
+ghost use Rattle.zorkamai.specs.Answers.{ofFound, ofTime, ofStep, SolveExported, AlignExported, FitExported, PredictExported, RunExported};
 
 mod answers;
 
@@ -71,7 +69,7 @@ pub extern "C" fn zorkamai_solve(
     workspace: &mut [f64],
     solution: &mut [f64],
 ) -> Answer
-    ensures { λ r. ⌜ Exported ofSolve (solveAnswer (now (left .entry)) (now (right .entry)) n c (now (workspace .entry)) (now (solution .entry))) (λ a. Solves (now (left .entry)) (now (right .entry)) n c (now (workspace .entry)) (now (solution .entry)) a (now (workspace .exit)) (now (solution .exit))) r ⌝ }
+    ensures { λ r. ⌜ SolveExported (systemOf left right n c) (solveSlices workspace solution) r ⌝ }
 {
     answers::of_solve(gauss::solve(left, right, n, c, workspace, solution))
 }
@@ -92,7 +90,10 @@ pub extern "C" fn zorkamai_align(
     intercept: &mut [f32],
     aligned: &mut [f32],
 ) -> u8
-    ensures { λ r. ⌜ Exported ofAlign (alignAnswer (record { file = now (file .entry); peptide = now (peptide .entry); label = now (label .entry); q = now (q .entry); rt = now (rt .entry); files = files; peptides = peptides }) (record { workspace = now (workspace .entry); maxRt = now («max_rt» .entry); slope = now (slope .entry); intercept = now (intercept .entry); aligned = now (aligned .entry) })) (Aligned (record { file = now (file .entry); peptide = now (peptide .entry); label = now (label .entry); q = now (q .entry); rt = now (rt .entry); files = files; peptides = peptides }) (record { workspace = now (workspace .entry); maxRt = now («max_rt» .entry); slope = now (slope .entry); intercept = now (intercept .entry); aligned = now (aligned .entry) }) (record { workspace = now (workspace .exit); maxRt = now («max_rt» .exit); slope = now (slope .exit); intercept = now (intercept .exit); aligned = now (aligned .exit) })) r ⌝ }
+    ensures { λ r. ⌜ AlignExported
+        (alignInput file peptide label q rt files peptides)
+        (alignSlices workspace «max_rt» slope intercept aligned)
+        r ⌝ }
 {
     answers::of_align(retention_alignment::global_alignment(
         file,
@@ -124,7 +125,10 @@ pub extern "C" fn zorkamai_retention_fit(
     workspace: &mut [f64],
     beta: &mut [f64],
 ) -> Answer
-    ensures { λ r. ⌜ Exported ofFit (fitAnswer Model.Retention (inputOf (now (peptide .entry)) (now (label .entry)) (now (q .entry)) [] (now (aligned .entry)) (now (letters .entry)) (now (offsets .entry)) (now (masses .entry)) (now (logs .entry))) (now (workspace .entry)) (now (beta .entry))) (FitCall Model.Retention (inputOf (now (peptide .entry)) (now (label .entry)) (now (q .entry)) [] (now (aligned .entry)) (now (letters .entry)) (now (offsets .entry)) (now (masses .entry)) (now (logs .entry))) (now (workspace .entry)) (now (workspace .exit)) (now (beta .entry)) (now (beta .exit))) r ⌝ }
+    ensures { λ r. ⌜ FitExported Model.Retention
+        (retentionInput peptide label q aligned letters offsets masses logs)
+        (fitSlices workspace beta)
+        r ⌝ }
 {
     answers::of_fit(retention_model::fit(
         peptide,
@@ -156,7 +160,10 @@ pub extern "C" fn zorkamai_retention_predict(
     predicted: &mut [f32],
     error: &mut [f32],
 ) -> Answer
-    ensures { λ r. ⌜ Exported ofFit (predictAnswer Model.Retention (inputOf (now (peptide .entry)) (now (label .entry)) (now (q .entry)) [] (now (aligned .entry)) (now (letters .entry)) (now (offsets .entry)) (now (masses .entry)) (now (logs .entry))) (now (workspace .entry)) (now (beta .entry)) (now (predicted .entry)) (now (error .entry))) (PredictCall Model.Retention (inputOf (now (peptide .entry)) (now (label .entry)) (now (q .entry)) [] (now (aligned .entry)) (now (letters .entry)) (now (offsets .entry)) (now (masses .entry)) (now (logs .entry))) (now (workspace .entry)) (now (workspace .exit)) (now (beta .entry)) (now (beta .exit)) (now (predicted .entry)) (now (predicted .exit)) (now (error .entry)) (now (error .exit))) r ⌝ }
+    ensures { λ r. ⌜ PredictExported Model.Retention
+        (retentionInput peptide label q aligned letters offsets masses logs)
+        (predictSlices workspace beta predicted error)
+        r ⌝ }
 {
     answers::of_fit(retention_model::predict(
         peptide,
@@ -188,7 +195,10 @@ pub extern "C" fn zorkamai_mobility_fit(
     workspace: &mut [f64],
     beta: &mut [f64],
 ) -> Answer
-    ensures { λ r. ⌜ Exported ofFit (fitAnswer Model.Mobility (inputOf (now (peptide .entry)) (now (label .entry)) (now (q .entry)) (now (charge .entry)) (now (mobility .entry)) (now (letters .entry)) (now (offsets .entry)) (now (masses .entry)) []) (now (workspace .entry)) (now (beta .entry))) (FitCall Model.Mobility (inputOf (now (peptide .entry)) (now (label .entry)) (now (q .entry)) (now (charge .entry)) (now (mobility .entry)) (now (letters .entry)) (now (offsets .entry)) (now (masses .entry)) []) (now (workspace .entry)) (now (workspace .exit)) (now (beta .entry)) (now (beta .exit))) r ⌝ }
+    ensures { λ r. ⌜ FitExported Model.Mobility
+        (mobilityInput peptide label q charge mobility letters offsets masses)
+        (fitSlices workspace beta)
+        r ⌝ }
 {
     answers::of_fit(mobility_model::fit(
         peptide,
@@ -220,7 +230,10 @@ pub extern "C" fn zorkamai_mobility_predict(
     predicted: &mut [f32],
     error: &mut [f32],
 ) -> Answer
-    ensures { λ r. ⌜ Exported ofFit (predictAnswer Model.Mobility (inputOf (now (peptide .entry)) (now (label .entry)) (now (q .entry)) (now (charge .entry)) (now (mobility .entry)) (now (letters .entry)) (now (offsets .entry)) (now (masses .entry)) []) (now (workspace .entry)) (now (beta .entry)) (now (predicted .entry)) (now (error .entry))) (PredictCall Model.Mobility (inputOf (now (peptide .entry)) (now (label .entry)) (now (q .entry)) (now (charge .entry)) (now (mobility .entry)) (now (letters .entry)) (now (offsets .entry)) (now (masses .entry)) []) (now (workspace .entry)) (now (workspace .exit)) (now (beta .entry)) (now (beta .exit)) (now (predicted .entry)) (now (predicted .exit)) (now (error .entry)) (now (error .exit))) r ⌝ }
+    ensures { λ r. ⌜ PredictExported Model.Mobility
+        (mobilityInput peptide label q charge mobility letters offsets masses)
+        (predictSlices workspace beta predicted error)
+        r ⌝ }
 {
     answers::of_fit(mobility_model::predict(
         peptide,
@@ -265,7 +278,12 @@ pub extern "C" fn zorkamai_run(
     mobility_predicted: &mut [f32],
     mobility_error: &mut [f32],
 ) -> RunReport
-    ensures { λ r. ⌜ Exported ofRun (runAnswer (record { file = now (file .entry); peptide = now (peptide .entry); label = now (label .entry); q = now (q .entry); rt = now (rt .entry); charge = now (charge .entry); mobility = now (mobility .entry); files = files; table = tableOf (now (letters .entry)) (now (offsets .entry)) (now (masses .entry)) (now (logs .entry)) }) (record { workspace = now (workspace .entry); maxRt = now («max_rt» .entry); slope = now (slope .entry); intercept = now (intercept .entry); aligned = now (aligned .entry); retentionBeta = now («retention_beta» .entry); retentionPredicted = now («retention_predicted» .entry); retentionError = now («retention_error» .entry); mobilityBeta = now («mobility_beta» .entry); mobilityPredicted = now («mobility_predicted» .entry); mobilityError = now («mobility_error» .entry) })) (RunCall (record { file = now (file .entry); peptide = now (peptide .entry); label = now (label .entry); q = now (q .entry); rt = now (rt .entry); charge = now (charge .entry); mobility = now (mobility .entry); files = files; table = tableOf (now (letters .entry)) (now (offsets .entry)) (now (masses .entry)) (now (logs .entry)) }) (record { workspace = now (workspace .entry); maxRt = now («max_rt» .entry); slope = now (slope .entry); intercept = now (intercept .entry); aligned = now (aligned .entry); retentionBeta = now («retention_beta» .entry); retentionPredicted = now («retention_predicted» .entry); retentionError = now («retention_error» .entry); mobilityBeta = now («mobility_beta» .entry); mobilityPredicted = now («mobility_predicted» .entry); mobilityError = now («mobility_error» .entry) }) (record { workspace = now (workspace .exit); maxRt = now («max_rt» .exit); slope = now (slope .exit); intercept = now (intercept .exit); aligned = now (aligned .exit); retentionBeta = now («retention_beta» .exit); retentionPredicted = now («retention_predicted» .exit); retentionError = now («retention_error» .exit); mobilityBeta = now («mobility_beta» .exit); mobilityPredicted = now («mobility_predicted» .exit); mobilityError = now («mobility_error» .exit) })) r ⌝ }
+    ensures { λ r. ⌜ RunExported
+        (runInput file peptide label q rt charge mobility files letters offsets masses logs)
+        (runSlices workspace «max_rt» slope intercept aligned
+        (runModel «retention_beta» «retention_predicted» «retention_error»)
+        (runModel «mobility_beta» «mobility_predicted» «mobility_error»))
+        r ⌝ }
 {
     answers::of_run(run::run(
         file,

@@ -3,69 +3,69 @@ use mathlib.Core.Path.{_≡_, sym, _∙_}
 use Prim.Native.Nat.{_*_, _≤_}
 use native.Mathlib.Nat.{mul-le-mul}
 use native.Mathlib.Omega.{arith}
-use lib.ListN.{length}
 use lib.Seq.{length-take-le}
-use denote.Ref.{now}
-use Rattle.gauss.specs.Solve.{needed, outputs}
+use Rattle.gauss.specs.Solve.{System, Slices, systemAt, slicesAt, status}
 use Rattle.gauss.proofs.Answer.{Passed, passed, accepted, refused, answered}
 use borrow.Author.Needs.{needs}
 use Rattle.gauss.proofs.solve.Statement.{statement}
 use Rattle.gauss.proofs.solve.Tie as tie
 
-within : (c : tie.Else1)
-    → Passed
-    (length (now (c .before .before .before .before .before .before .args .left)))
-    (length (now (c .before .before .before .before .before .before .args .right)))
-    (c .before .before .before .before .before .before .args .n)
-    (c .before .before .before .before .before .before .args .c)
-    (length (now (c .before .before .before .before .before .before .args .workspace)))
-    (length (now (c .before .before .before .before .before .before .args .solution)))
-within c = passed _ _ _ _ _ _ (sym (c .before .check .ensures) ∙ c .if1 .left)
+-- places in the code, each as a later one sees it
+abbrev start : tie.After-check → tie.Start
+start c = c .before .before .before .before .before
+
+abbrev passed-by : tie.After-first-solved → tie.Else1
+passed-by c = c .before .before .before
+
+abbrev searched : tie.After-slice-known4 → tie.After-first-solved
+searched c = c .before .before .before .before
+
+-- what the call was passed, and what its slices held
+abbrev system : tie.Start → System
+system s = let a = s .args in systemAt (a .left) (a .right) (a .n) (a .c)
+
+abbrev held : tie.Start → Slices
+held s = let a = s .args in slicesAt (a .workspace) (a .solution)
+
+accepts : (c : tie.Else1) → status (system (start (c .before))) (held (start (c .before))) ≡ 0
+accepts c = sym (c .before .check .ensures) ∙ c .if1 .left
+
+within : (c : tie.Else1) → Passed (system (start (c .before))) (held (start (c .before)))
+within c = passed _ _ (accepts c)
+
+-- the products of the two numbers
+small : (c : tie.Else1) → let a = start (c .before) .args in (a .n * a .n ≤ 100 * 100) × (a .n * a .c ≤ 100 * 8)
+small c = let p = within c in (mul-le-mul (p .order) (p .order), mul-le-mul (p .order) (p .columns))
 
 check-requires : tie.Need-check-requires
 check-requires c κs = search needs
 
 returns : tie.Need-returns
-returns c = let s = c .before .before .before .before .before .before in refused (now (s .args .left)) (now (s .args .right)) (s .args .n) (s .args .c) (now (s .args .workspace)) (now (s .args .solution)) (c .before .check .result) (c .before .check .ensures) (c .if1 .taken)
+returns c = let s = start (c .before) in refused (system s) (held s) (c .before .check .result) (c .before .check .ensures) (c .if1 .taken)
 
 mul-outputs : tie.Need-mul-outputs
-mul-outputs c =
-    let s = c .before .before .before .before .before .before in
-    let p = within c in
-    let square : s .args .n * s .args .n ≤ 100 * 100 = mul-le-mul (p .order) (p .order) in
-    let sides : s .args .n * s .args .c ≤ 100 * 8 = mul-le-mul (p .order) (p .columns) in
-    omega arith
+mul-outputs c = omega (arith, small c .1)
 
 mul-needed : tie.Need-mul-needed
-mul-needed c =
-    let s = c .before .before .before .before .before .before in
-    let p = within c in
-    let square : s .args .n * s .args .n ≤ 100 * 100 = mul-le-mul (p .order) (p .order) in
-    let sides : s .args .n * s .args .c ≤ 100 * 8 = mul-le-mul (p .order) (p .columns) in
-    omega arith
+mul-needed c = omega (arith, small c .0)
 
 add-needed : tie.Need-add-needed
-add-needed c =
-    let s = c .before .before .before .before .before .before in
-    let p = within c in
-    let square : s .args .n * s .args .n ≤ 100 * 100 = mul-le-mul (p .order) (p .order) in
-    let sides : s .args .n * s .args .c ≤ 100 * 8 = mul-le-mul (p .order) (p .columns) in
-    omega arith
+add-needed c = omega (arith, small c .0, small c .1)
 
 slice-relend-prefix-first-solved : tie.Need-slice-relend-prefix-first-solved
 slice-relend-prefix-first-solved c = within c .cellRoom
 
 slice-aggregate-first-solved : tie.Need-slice-aggregate-first-solved
-slice-aggregate-first-solved c = let s = c .before .before .before .before .before .before .before in sym (length-take-le (needed (s .args .n) (s .args .c)) (now (s .args .workspace)) (within (c .before) .cellRoom))
+slice-aggregate-first-solved c = sym (length-take-le _ _ (within (c .before) .cellRoom))
 
 slice-relend-prefix-first-solved-2 : tie.Need-slice-relend-prefix-first-solved-2
 slice-relend-prefix-first-solved-2 c = within (c .before) .solutionRoom
 
 slice-aggregate-first-solved-2 : tie.Need-slice-aggregate-first-solved-2
-slice-aggregate-first-solved-2 c = let s = c .before .before .before .before .before .before .before .before in sym (length-take-le (outputs (s .args .n) (s .args .c)) (now (s .args .solution)) (within (c .before .before) .solutionRoom))
+slice-aggregate-first-solved-2 c = sym (length-take-le _ _ (within (c .before .before) .solutionRoom))
 
 first-solved-requires : tie.Need-first-solved-requires
-first-solved-requires c κs = let s = c .before .before .before .before .before .before .before .before in accepted (now (s .args .left)) (now (s .args .right)) (s .args .n) (s .args .c) (now (s .args .workspace)) (now (s .args .solution)) (within (c .before .before))
+first-solved-requires c κs = accepted _ _ (within (c .before .before))
 
 same-length : tie.Need-same-length
 same-length c = search needs
@@ -75,10 +75,13 @@ same-length-2 c = search needs
 
 returns-2 : tie.Need-returns-2
 returns-2 c =
-    let s = c .before .before .before .before .before .before .before .before .before .before .before .before .before in
-    let f = c .before .before .before .before .first-solved in
-    let p = within (c .before .before .before .before .before .before .before) in
-    answered (now (s .args .left)) (now (s .args .right)) (s .args .n) (s .args .c) (now (s .args .workspace)) (now (s .args .solution)) (c .before .before .before .before .before .before .before .before .check .result) (c .before .before .before .before .before .before .before .before .check .ensures) (c .before .before .before .before .before .before .before .if1 .left) (p .cellRoom) (p .solutionRoom) (f .result) (f .last .1 .1 .1 .1 .0) (f .last .1 .1 .1 .1 .1 .0) (f .kept .1 .1 .1 .1 .0) (f .kept .1 .1 .1 .1 .1 .0) (f .ensures)
+    let d = searched c in
+    let f = d .first-solved in
+    let e = passed-by d in
+    let s = start (e .before) in
+    let l = f .last .1 .1 .1 .1 in
+    let k = f .kept .1 .1 .1 .1 in
+    answered (system s) (held s) (accepts e) (record { workspace = l .0; solution = l .1 .0 }) (f .result) (f .ensures) (k .0) (k .1 .0)
 
 pub solve-spec : {M : Type 1} → statement M
 solve-spec =

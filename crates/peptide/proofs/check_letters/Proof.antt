@@ -9,8 +9,8 @@ use lib.ListN.{length, drop, getD, drop-of-length-le}
 use borrow.Author.Needs.{needs}
 use borrow.Author.Tests.{not-true, not-false}
 use Rattle.mass.specs.Mass.{isLetter}
-use Rattle.feature.specs.Checks.{every}
-use Rattle.feature.proofs.Laws.{every-step}
+use Rattle.status.specs.Checks.{every}
+use Rattle.status.proofs.Laws.{every-step}
 use Rattle.peptide.specs.Table.{lettersRight}
 use Rattle.peptide.proofs.check_letters.Statement.{statement}
 use Rattle.peptide.proofs.check_letters.Tie as tie

@@ -5,7 +5,8 @@ use native.Mathlib.Omega.{arith}
 use lib.ListN.{length, drop, getD}
 use borrow.Author.Needs.{needs}
 use borrow.Author.Tests.{le-leb, lt-leb, eq-eqb, ne-eqb}
-use Rattle.peptide.specs.Table.{maxLength, climbs, offsetsRight}
+use Rattle.peptide.specs.Table.{climbs, offsetsRight}
+use Rattle.status.specs.Limits.{maxLetters}
 use Rattle.peptide.proofs.Laws.{offsets-head, offsets-none, climbs-step, climbs-done}
 use Rattle.peptide.proofs.check_offsets.Statement.{statement}
 use Rattle.peptide.proofs.check_offsets.Tie as tie
@@ -74,7 +75,7 @@ returns-5 c =
     let l = c .before .before .before .before in
     let p = l .before .before .before .before .before .args in
     let rises : l .loop .start ≤ getD (p .offsets .now) (l .loop .i) 0 = omega (arith, c .before .if4 .left) in
-    let long : l .loop .start + maxLength < getD (p .offsets .now) (l .loop .i) 0 = omega (arith, c .if5 .taken) in
+    let long : l .loop .start + maxLetters < getD (p .offsets .now) (l .loop .i) 0 = omega (arith, c .if5 .taken) in
     sym (sym (l .loop .inv .2) ∙ rw (le-leb _ _ rises, lt-leb _ _ long) at (climbs-step (l .loop .start) (p .letters) (l .loop .i) (p .offsets .now) (search needs)))
 
 add-i : tie.Need-add-i Inv-loop μ-loop
@@ -88,7 +89,7 @@ loop-again c =
     let l = c .before .before .before .before in
     let p = l .before .before .before .before .before .args in
     let rises : l .loop .start ≤ getD (p .offsets .now) (l .loop .i) 0 = omega (arith, c .before .if4 .left) in
-    let short : getD (p .offsets .now) (l .loop .i) 0 ≤ l .loop .start + maxLength = omega (arith, c .if5 .left) in (
+    let short : getD (p .offsets .now) (l .loop .i) 0 ≤ l .loop .start + maxLetters = omega (arith, c .if5 .left) in (
       search needs,
       omega (arith, c .before .before .shared-slice-known2 .given (l .loop .i)),
       sym (rw (le-leb _ _ rises, le-leb _ _ short) at (climbs-step (l .loop .start) (p .letters) (l .loop .i) (p .offsets .now) (search needs))) ∙ l .loop .inv .2,

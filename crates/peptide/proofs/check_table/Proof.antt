@@ -1,6 +1,7 @@
 -- `peptide::check_table` meets its contract: the first of the two checks that fails, by the tests that led there.
 use borrow.Author.Needs.{needs}
-use Rattle.peptide.proofs.Laws.{fails, passes, status-by}
+use Rattle.status.proofs.First.{fails, passes}
+use Rattle.peptide.proofs.Laws.{status-by}
 use Rattle.peptide.proofs.check_table.Statement.{statement}
 use Rattle.peptide.proofs.check_table.Tie as tie
 

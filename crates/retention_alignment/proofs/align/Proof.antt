@@ -9,7 +9,8 @@ use lib.ListN.{length, take, drop, replicate, length-append, length-replicate}
 use lib.Seq.{length-take-le, take-at}
 use lib.Ieee.{Float}
 use Rattle.float.specs.Number.{zero64}
-use Rattle.feature.specs.Checks.{allBelow, maxFiles}
+use Rattle.status.specs.Checks.{allBelow}
+use Rattle.status.specs.Limits.{maxFiles}
 use Rattle.matrix.specs.Rows.{rowsOf}
 use Rattle.rt_matrix.specs.Line.{lines}
 use Rattle.rt_matrix.specs.Cells.{decode}

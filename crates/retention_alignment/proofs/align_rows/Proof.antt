@@ -10,7 +10,7 @@ use mir.Val.{Fits}
 use denote.Ref.{now}
 use lib.ListN.{length, getD, length-set, length-map, List·getD-map}
 use lib.Ieee.{Float, nan}
-use Rattle.feature.proofs.Laws.{below-at}
+use Rattle.status.proofs.Laws.{below-at}
 use Rattle.rt_matrix.specs.Cells.{recordsOf}
 use Rattle.rt_matrix.specs.declared.Alignment.{Alignment}
 use Rattle.matrix.proofs.Lists.{over, zipped-over}

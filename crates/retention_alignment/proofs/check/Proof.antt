@@ -7,8 +7,8 @@ use borrow.Author.Needs.{needs}
 use borrow.Author.Tests.{not-true, not-false}
 use denote.Ref.{now}
 use lib.ListN.{length}
-use Rattle.feature.specs.Checks.{withinLimits}
-use Rattle.feature.proofs.Laws.{limits}
+use Rattle.status.specs.Limits.{withinLimits}
+use Rattle.status.proofs.Laws.{limits}
 use Rattle.retention_alignment.specs.Call.{longEnough, statusOf}
 use Rattle.retention_alignment.proofs.Statuses.{fails-1, fails-2, fails-3, fails-4, fails-5, fails-none}
 use Rattle.retention_alignment.proofs.check.Statement.{statement}

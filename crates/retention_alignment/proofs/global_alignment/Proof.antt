@@ -3,10 +3,9 @@ use mathlib.Core.Path.{_≡_, sym, ap, _∙_}
 use Prim.Native.Nat.{ℕ, _*_, _≤_, _<_, _^_}
 use native.Mathlib.Omega.{arith}
 use borrow.Author.Needs.{needs}
-use denote.Ref.{now}
 use lib.ListN.{length, take}
 use lib.Seq.{length-take-le}
-use Rattle.retention_alignment.specs.Call.{Input, Slices}
+use Rattle.retention_alignment.specs.Call.{Input, Slices, inputAt, slicesAt}
 use Rattle.retention_alignment.proofs.Calls.{Passed, passed, refused, accepted-is}
 use Rattle.retention_alignment.proofs.global_alignment.Statement.{statement}
 use Rattle.retention_alignment.proofs.global_alignment.Tie as tie
@@ -15,10 +14,10 @@ abbrev start : tie.After-check → tie.Start
 start c = c .before .before .before .before .before .before .before .before .before .before
 
 abbrev input : tie.Start → Input
-input s = let a = s .args in record { file = now (a .file); peptide = now (a .peptide); label = now (a .label); q = now (a .q); rt = now (a .rt); files = a .files; peptides = a .peptides }
+input s = let a = s .args in inputAt (a .file) (a .peptide) (a .label) (a .q) (a .rt) (a .files) (a .peptides)
 
 abbrev slices : tie.Start → Slices
-slices s = let a = s .args in record { workspace = now (a .workspace); maxRt = now (a .max-rt); slope = now (a .slope); intercept = now (a .intercept); aligned = now (a .aligned) }
+slices s = let a = s .args in slicesAt (a .workspace) (a .max-rt) (a .slope) (a .intercept) (a .aligned)
 
 -- what the checks showed
 checks : (e : tie.Else1) → Passed (input (start (e .before))) (slices (start (e .before)))

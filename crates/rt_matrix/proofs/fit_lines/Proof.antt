@@ -8,7 +8,7 @@ use denote.Ref.{now}
 use lib.ListN.{length, take, replicate, length-replicate}
 use lib.Seq.{length-take-le}
 use lib.Ieee.{Float, binary64, ofBits, round}
-use Rattle.feature.specs.Checks.{maxFiles}
+use Rattle.status.specs.Limits.{maxFiles}
 use Rattle.float.specs.Number.{zero64}
 use Rattle.rt_matrix.specs.Line.{sx2Start}
 use Rattle.rt_matrix.specs.Cells.{Fresh}

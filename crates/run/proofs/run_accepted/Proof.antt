@@ -1,16 +1,11 @@
 -- `run::run_accepted` meets its contract: the alignment, then retention on the aligned times it wrote, then mobility, each of which accepts what it is
 -- passed.
-use mathlib.Core.Path.{_≡_, refl, sym, ap, _∙_}
-use mathlib.Core.List.{List}
-use Prim.Native.Nat.{ℕ}
+use mathlib.Core.Path.{_∙_}
+use Prim.Native.Nat.{_≤_}
 use native.Mathlib.Omega.{arith}
-use denote.Ref.{now}
-use lib.Ieee.{Float}
 use lib.ListN.{length, length-take}
-use Rattle.model_fit.specs.Input.{tableOf}
 use Rattle.retention_alignment.specs.Call.{Slices as AlignSlices}
-use Rattle.run.specs.Call.{Input, Slices, roomOf, outcomeOf}
-use Rattle.run.specs.declared.RunAnswer.the-variants.{Ran}
+use Rattle.run.specs.Call.{Input, Slices, inputAt, modelAt, slicesAt, roomOf}
 use Rattle.run.proofs.Accepted.{Passed, passed}
 use Rattle.run.proofs.Filling.{run-filled}
 use borrow.Author.Needs.{needs}
@@ -21,26 +16,47 @@ use Rattle.run.proofs.run_accepted.Tie as tie
 abbrev input : tie.Start → Input
 input s =
     let a = s .args in
-    record { file = now (a .file); peptide = now (a .peptide); label = now (a .label); q = now (a .q); rt = now (a .rt); charge = now (a .charge); mobility = now (a .mobility); files = a .files; table = tableOf (now (a .letters)) (now (a .offsets)) (now (a .masses)) (now (a .logs)) }
+    inputAt (a .file) (a .peptide) (a .label) (a .q) (a .rt) (a .charge) (a .mobility) (a .files) (a .letters) (a .offsets) (a .masses) (a .logs)
 
 abbrev held : tie.Start → Slices
 held s =
     let a = s .args in
-    record { workspace = now (a .workspace); maxRt = now (a .max-rt); slope = now (a .slope); intercept = now (a .intercept); aligned = now (a .aligned); retentionBeta = now (a .retention-beta); retentionPredicted = now (a .retention-predicted); retentionError = now (a .retention-error); mobilityBeta = now (a .mobility-beta); mobilityPredicted = now (a .mobility-predicted); mobilityError = now (a .mobility-error) }
+    slicesAt (a .workspace) (a .max-rt) (a .slope) (a .intercept) (a .aligned) (modelAt (a .retention-beta) (a .retention-predicted) (a .retention-error)) (modelAt (a .mobility-beta) (a .mobility-predicted) (a .mobility-error))
 
 has-passed : (s : tie.Start) → Passed (input s) (roomOf (held s))
 has-passed s = passed (input s) (roomOf (held s)) (s .pre)
+
+-- places in the code, each as a later one sees it: where it begins, and after each of the three calls
+abbrev start : tie.After-global-alignment → tie.Start
+start c = c .before .before .before .before .before .before .before .before .before .before .before .before .before .before .before .before .before .before .before .before .before .before .before .before .before .before .before
+
+abbrev aligned-by : tie.After-slice-known16 → tie.After-global-alignment
+aligned-by c = c .before .before .before .before .before .before .before .before .before .before
+
+abbrev before-retention : tie.After-predict → tie.After-slice-known16
+before-retention c = c .before .before .before .before .before .before
+
+abbrev retention-by : tie.After-predict2 → tie.After-predict
+retention-by c = c .before .before .before .before .before .before .before .before .before .before .before .before .before
+
+abbrev mobility-by : tie.After-outcome-of2 → tie.After-predict2
+mobility-by c = c .before .before .before .before .before .before .before .before .before .before
+
+abbrev alignment : tie.After-outcome-of2 → tie.After-global-alignment
+alignment c = aligned-by (before-retention (retention-by (mobility-by c)))
+
+-- the aligned times are long enough for every row
+times-long : (c : tie.After-slice-known16) → length (input (start (aligned-by c)) .file) ≤ length (aligned-by c .global-alignment .last .1 .1 .1 .1 .1 .1 .1 .1 .1 .1 .1 .0)
+times-long c = let g = aligned-by c in omega (arith, has-passed (start g) .long .aligned, g .global-alignment .kept .1 .1 .1 .1 .1 .1 .1 .1 .1 .1 .1 .0)
 
 global-alignment-requires : tie.Need-global-alignment-requires
 global-alignment-requires c κs = search needs
 
 slice-reshare-prefix-predict : tie.Need-slice-reshare-prefix-predict
-slice-reshare-prefix-predict c =
-    omega (arith, has-passed (c .before .before .before .before .before .before .before .before .before .before .before .before .before .before .before .before .before .before .before .before .before .before .before .before .before .before .before .before .before .before .before .before .before .before .before .before .before) .long .aligned, c .before .before .before .before .before .before .before .before .before .before .global-alignment .kept .1 .1 .1 .1 .1 .1 .1 .1 .1 .1 .1 .0)
+slice-reshare-prefix-predict c = times-long c
 
 slice-aggregate-predict : tie.Need-slice-aggregate-predict
-slice-aggregate-predict c =
-    simp length-take (omega (arith, has-passed (c .before .before .before .before .before .before .before .before .before .before .before .before .before .before .before .before .before .before .before .before .before .before .before .before .before .before .before .before .before .before .before .before .before .before .before .before .before .before) .long .aligned, c .before .before .before .before .before .before .before .before .before .before .before .global-alignment .kept .1 .1 .1 .1 .1 .1 .1 .1 .1 .1 .1 .0))
+slice-aggregate-predict c = simp length-take (omega (arith, times-long (c .before)))
 
 predict-requires : tie.Need-predict-requires
 predict-requires c κs = search needs
@@ -55,56 +71,60 @@ outcome-of-requires-2 : tie.Need-outcome-of-requires-2
 outcome-of-requires-2 c κs = search needs
 
 same-length : tie.Need-same-length
-same-length c = c .before .before .before .before .before .before .before .before .before .before .predict2 .kept .1 .1 .1 .1 .1 .1 .1 .1 .0 ∙ c .before .before .before .before .before .before .before .before .before .before .before .before .before .before .before .before .before .before .before .before .before .before .before .predict .kept .1 .1 .1 .1 .1 .1 .1 .1 .0 ∙ c .before .before .before .before .before .before .before .before .before .before .before .before .before .before .before .before .before .before .before .before .before .before .before .before .before .before .before .before .before .before .before .before .before .before .before .before .before .before .before .global-alignment .kept .1 .1 .1 .1 .1 .1 .1 .0
+same-length c =
+    let y = mobility-by c in
+    let x = retention-by y in
+    let g = alignment c in
+    y .predict2 .kept .1 .1 .1 .1 .1 .1 .1 .1 .0 ∙ x .predict .kept .1 .1 .1 .1 .1 .1 .1 .1 .0 ∙ g .global-alignment .kept .1 .1 .1 .1 .1 .1 .1 .0
 
 same-length-2 : tie.Need-same-length-2
-same-length-2 c = c .before .before .before .before .before .before .before .before .before .before .before .before .before .before .before .before .before .before .before .before .before .before .before .before .before .before .before .before .before .before .before .before .before .before .before .before .before .before .before .global-alignment .kept .1 .1 .1 .1 .1 .1 .1 .1 .0
+same-length-2 c = let g = alignment c in search needs
 
 same-length-3 : tie.Need-same-length-3
-same-length-3 c = c .before .before .before .before .before .before .before .before .before .before .before .before .before .before .before .before .before .before .before .before .before .before .before .before .before .before .before .before .before .before .before .before .before .before .before .before .before .before .before .global-alignment .kept .1 .1 .1 .1 .1 .1 .1 .1 .1 .0
+same-length-3 c = let g = alignment c in search needs
 
 same-length-4 : tie.Need-same-length-4
-same-length-4 c = c .before .before .before .before .before .before .before .before .before .before .before .before .before .before .before .before .before .before .before .before .before .before .before .before .before .before .before .before .before .before .before .before .before .before .before .before .before .before .before .global-alignment .kept .1 .1 .1 .1 .1 .1 .1 .1 .1 .1 .0
+same-length-4 c = let g = alignment c in search needs
 
 same-length-5 : tie.Need-same-length-5
-same-length-5 c = c .before .before .before .before .before .before .before .before .before .before .before .before .before .before .before .before .before .before .before .before .before .before .before .before .before .before .before .before .before .before .before .before .before .before .before .before .before .before .before .global-alignment .kept .1 .1 .1 .1 .1 .1 .1 .1 .1 .1 .1 .0
+same-length-5 c = let g = alignment c in search needs
 
 same-length-6 : tie.Need-same-length-6
-same-length-6 c = c .before .before .before .before .before .before .before .before .before .before .before .before .before .before .before .before .before .before .before .before .before .before .before .predict .kept .1 .1 .1 .1 .1 .1 .1 .1 .1 .0
+same-length-6 c = search needs
 
 same-length-7 : tie.Need-same-length-7
-same-length-7 c = c .before .before .before .before .before .before .before .before .before .before .before .before .before .before .before .before .before .before .before .before .before .before .before .predict .kept .1 .1 .1 .1 .1 .1 .1 .1 .1 .1 .0
+same-length-7 c = search needs
 
 same-length-8 : tie.Need-same-length-8
-same-length-8 c = c .before .before .before .before .before .before .before .before .before .before .before .before .before .before .before .before .before .before .before .before .before .before .before .predict .kept .1 .1 .1 .1 .1 .1 .1 .1 .1 .1 .1 .0
+same-length-8 c = search needs
 
 same-length-9 : tie.Need-same-length-9
-same-length-9 c = c .before .before .before .before .before .before .before .before .before .before .predict2 .kept .1 .1 .1 .1 .1 .1 .1 .1 .1 .0
+same-length-9 c = search needs
 
 same-length-10 : tie.Need-same-length-10
-same-length-10 c = c .before .before .before .before .before .before .before .before .before .before .predict2 .kept .1 .1 .1 .1 .1 .1 .1 .1 .1 .1 .0
+same-length-10 c = search needs
 
 same-length-11 : tie.Need-same-length-11
-same-length-11 c = c .before .before .before .before .before .before .before .before .before .before .predict2 .kept .1 .1 .1 .1 .1 .1 .1 .1 .1 .1 .1 .0
+same-length-11 c = search needs
 
 returns : tie.Need-returns
 returns c =
-    let s : tie.Start = c .before .before .before .before .before .before .before .before .before .before .before .before .before .before .before .before .before .before .before .before .before .before .before .before .before .before .before .before .before .before .before .before .before .before .before .before .before .before .before .before .before .before .before .before .before .before .before .before .before .before .before .before .before .before .before .before .before .before .before .before .before .before .before .before .before .before in
-    let g = c .before .before .before .before .before .before .before .before .before .before .before .before .before .before .before .before .before .before .before .before .before .before .before .before .before .before .before .before .before .before .before .before .before .before .before .before .before .before .before .global-alignment in
-    let x = c .before .before .before .before .before .before .before .before .before .before .before .before .before .before .before .before .before .before .before .before .before .before .before .predict in
-    let y = c .before .before .before .before .before .before .before .before .before .before .predict2 in
-    let t : AlignSlices = record {
-      workspace = g .last .1 .1 .1 .1 .1 .1 .1 .0;
-      maxRt = g .last .1 .1 .1 .1 .1 .1 .1 .1 .0;
-      slope = g .last .1 .1 .1 .1 .1 .1 .1 .1 .1 .0;
-      intercept = g .last .1 .1 .1 .1 .1 .1 .1 .1 .1 .1 .0;
-      aligned = g .last .1 .1 .1 .1 .1 .1 .1 .1 .1 .1 .1 .0;
-    } in
+    let y = mobility-by c in
+    let x = retention-by y in
+    let g = alignment c in
+    let s = start g in
+    let align = g .global-alignment in
+    let aligned = align .last .1 .1 .1 .1 .1 .1 .1 in
+    let t : AlignSlices = record { workspace = aligned .0; maxRt = aligned .1 .0; slope = aligned .1 .1 .0; intercept = aligned .1 .1 .1 .0; aligned = aligned .1 .1 .1 .1 .0 } in
+    let retention = x .predict in
+    let r = retention .last .1 .1 .1 .1 .1 .1 .1 .1 in
+    let mobility = y .predict2 in
+    let m = mobility .last .1 .1 .1 .1 .1 .1 .1 .1 in
     let f =
-    run-filled (input s) (held s) (has-passed s) t (g .result) (g .ensures) (g .kept .1 .1 .1 .1 .1 .1 .1 .0) (g .kept .1 .1 .1 .1 .1 .1 .1 .1 .1 .1 .1 .0)
-    (x .last .1 .1 .1 .1 .1 .1 .1 .1 .0) (x .last .1 .1 .1 .1 .1 .1 .1 .1 .1 .0) (x .last .1 .1 .1 .1 .1 .1 .1 .1 .1 .1 .0) (x .last .1 .1 .1 .1 .1 .1 .1 .1 .1 .1 .1 .0) (x .result) (x .ensures)
-    (x .kept .1 .1 .1 .1 .1 .1 .1 .1 .0 ∙ g .kept .1 .1 .1 .1 .1 .1 .1 .0)
-    (y .last .1 .1 .1 .1 .1 .1 .1 .1 .0) (y .last .1 .1 .1 .1 .1 .1 .1 .1 .1 .0) (y .last .1 .1 .1 .1 .1 .1 .1 .1 .1 .1 .0) (y .last .1 .1 .1 .1 .1 .1 .1 .1 .1 .1 .1 .0) (y .result) (y .ensures) in
+    run-filled (input s) (held s) (has-passed s) t (align .result) (align .ensures) (align .kept .1 .1 .1 .1 .1 .1 .1 .0) (align .kept .1 .1 .1 .1 .1 .1 .1 .1 .1 .1 .1 .0)
+    (record { workspace = r .0; beta = r .1 .0; predicted = r .1 .1 .0; error = r .1 .1 .1 .0 }) (retention .result) (retention .ensures)
+    (retention .kept .1 .1 .1 .1 .1 .1 .1 .1 .0 ∙ align .kept .1 .1 .1 .1 .1 .1 .1 .0)
+    (record { workspace = m .0; beta = m .1 .0; predicted = m .1 .1 .0; error = m .1 .1 .1 .0 }) (mobility .result) (mobility .ensures) in
     rw (c .before .outcome-of .ensures, c .outcome-of2 .ensures) f
 
 pub run-accepted-spec : {M : Type 1} → statement M

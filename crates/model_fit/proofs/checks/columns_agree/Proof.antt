@@ -6,7 +6,7 @@ use Prim.Native.Nat.{ℕ}
 use lib.Dec.{eqb}
 use borrow.Author.Needs.{needs}
 use borrow.Author.Tests.{eq-eqb, not-true, not-false}
-use Rattle.feature.specs.Checks.{every, lengthsAgree}
+use Rattle.status.specs.Checks.{every, lengthsAgree}
 use Rattle.model_fit.specs.Input.{columnsAgree}
 use Rattle.model_fit.proofs.checks.columns_agree.Statement.{statement}
 use Rattle.model_fit.proofs.checks.columns_agree.Tie as tie

@@ -1,7 +1,7 @@
 -- `models::prediction::fit` meets its contract: refused by the status, or fitted.
 use mathlib.Core.Path.{_≡_, sym, ap, _∙_}
 use denote.Ref.{now}
-use Rattle.feature.specs.Status.{accepted}
+use Rattle.status.specs.Status.{accepted}
 use Rattle.model_fit.specs.Input.{Input, inputOf, statusOf}
 use Rattle.model_fit.proofs.Status.{accepted-checked, accepted-room}
 use Rattle.models.specs.Call.{fitStatus}
@@ -21,7 +21,7 @@ returns c =
     let a = c .before .before .before .before .before .before .before .before .before .before .before .before .before .args in
     let i : Input =
     inputOf (now (a .peptide)) (now (a .label)) (now (a .q)) (now (a .charge)) (now (a .observed)) (now (a .letters)) (now (a .offsets)) (now (a .masses)) (now (a .logs)) in
-    fit-refused (a .model) i (now (a .workspace)) (now (a .beta)) (c .before .check .result) (c .before .check .ensures ∙ ap (statusOf (a .model) i) (c .before .before .fit-room .ensures)) (c .if1 .taken)
+    fit-refused (a .model) i _ (c .before .check .result) (c .before .check .ensures ∙ ap (statusOf (a .model) i) (c .before .before .fit-room .ensures)) (c .if1 .taken)
 
 fit-accepted-requires : tie.Need-fit-accepted-requires
 fit-accepted-requires c κs =
@@ -42,8 +42,8 @@ returns-2 c =
     let a = c .before .before .before .before .before .before .before .before .before .before .before .before .before .before .before .before .before .before .before .before .args in
     let i : Input =
     inputOf (now (a .peptide)) (now (a .label)) (now (a .q)) (now (a .charge)) (now (a .observed)) (now (a .letters)) (now (a .offsets)) (now (a .masses)) (now (a .logs)) in
-    let s : fitStatus (a .model) i (now (a .workspace)) (now (a .beta)) ≡ accepted = sym (c .before .before .before .before .before .before .before .before .check .ensures ∙ ap (statusOf (a .model) i) (c .before .before .before .before .before .before .before .before .before .fit-room .ensures)) ∙ c .before .before .before .before .before .before .before .if1 .left in
-    fit-accepted (a .model) i (now (a .workspace)) (now (a .beta)) (c .before .before .before .before .fit-accepted .last .1 .1 .1 .1 .1 .1 .1 .1 .1 .1 .0) (c .before .before .before .before .fit-accepted .last .1 .1 .1 .1 .1 .1 .1 .1 .1 .1 .1 .0) (c .before .before .before .before .fit-accepted .result) s (c .before .before .before .before .fit-accepted .ensures)
+    let s : fitStatus (a .model) i (record { workspace = now (a .workspace); beta = now (a .beta) }) ≡ accepted = sym (c .before .before .before .before .before .before .before .before .check .ensures ∙ ap (statusOf (a .model) i) (c .before .before .before .before .before .before .before .before .before .fit-room .ensures)) ∙ c .before .before .before .before .before .before .before .if1 .left in
+    fit-accepted (a .model) i _ _ (c .before .before .before .before .fit-accepted .result) s (c .before .before .before .before .fit-accepted .ensures)
 
 pub fit-spec : {M : Type 1} → statement M
 fit-spec = tie.close (tie.spec fit-room-requires check-requires returns fit-accepted-requires same-length same-length-2 returns-2)

@@ -1,10 +1,8 @@
 -- `models::prediction::predict_accepted` meets its contract: solved and written, or not solved and left.
 use mathlib.Core.Path.{_≡_, sym, _∙_}
 use mathlib.Core.Bool.{true, false}
-use mathlib.Core.List.{List}
 use native.Mathlib.Omega.{arith}
 use denote.Ref.{now}
-use lib.Ieee.{Float}
 use lib.ListN.{length, length-take}
 use Rattle.regression.specs.declared.FitOutcome.{FitOutcome}
 use Rattle.model_fit.specs.Input.{Input, inputOf}
@@ -69,8 +67,6 @@ returns c =
     let a = s .args in
     let i : Input = passed s in
     let g = c .before .before .before .before .before .before .before .before .before .before .before .before .before .before .before .before .before .fit-accepted in
-    let w : List Float = g .last .1 .1 .1 .1 .1 .1 .1 .1 .1 .1 .0 in
-    let b : List Float = g .last .1 .1 .1 .1 .1 .1 .1 .1 .1 .1 .1 .0 in
     let r : FitOutcome = g .result in
     let e : isSolved r ≡ true = sym (c .before .before .before .before .before .before .before .before .before .before .before .before .is-solved .ensures) ∙ c .before .before .before .before .before .before .before .before .before .before .before .if1 .taken in
     let d = c .before .before .before .before .before .before .before .before .before .before .order in
@@ -78,9 +74,9 @@ returns c =
     let x = c .before .before .write-errors in
     record {
       fitted = g .ensures;
-      predicted = solved-predictions (a .model) i (now (a .workspace)) w (now (a .beta)) b r (g .ensures) e (d .result) (d .ensures) (now (a .predicted)) (p .last .1 .1 .1 .1 .1 .1 .1 .1 .0) (p .ensures);
+      predicted = solved-predictions (a .model) i _ _ r (g .ensures) e (d .result) (d .ensures) (now (a .predicted)) (p .last .1 .1 .1 .1 .1 .1 .1 .1 .0) (p .ensures);
       error =
-          solved-errors (a .model) i (now (a .workspace)) w (now (a .beta)) b r (g .ensures) e (d .result) (d .ensures) (now (a .predicted)) (p .last .1 .1 .1 .1 .1 .1 .1 .1 .0) (p .ensures) (now (a .error)) (x .last .1 .1 .0) (s .pre .0 .observed-long) (x .ensures);
+          solved-errors (a .model) i _ _ r (g .ensures) e (d .result) (d .ensures) (now (a .predicted)) (p .last .1 .1 .1 .1 .1 .1 .1 .1 .0) (p .ensures) (now (a .error)) (x .last .1 .1 .0) (s .pre .0 .observed-long) (x .ensures);
     }
 
 same-length-5 : tie.Need-same-length-5
@@ -95,14 +91,12 @@ returns-2 c =
     let a = s .args in
     let i : Input = passed s in
     let g = c .before .before .before .before .before .before .fit-accepted in
-    let w : List Float = g .last .1 .1 .1 .1 .1 .1 .1 .1 .1 .1 .0 in
-    let b : List Float = g .last .1 .1 .1 .1 .1 .1 .1 .1 .1 .1 .1 .0 in
     let r : FitOutcome = g .result in
     let u : isSolved r ≡ false = sym (c .before .is-solved .ensures) ∙ c .if1 .left in
     record {
       fitted = g .ensures;
-      predicted = unsolved-predictions (a .model) i (now (a .workspace)) w (now (a .beta)) b r (g .ensures) u (now (a .predicted));
-      error = unsolved-errors (a .model) i (now (a .workspace)) w (now (a .beta)) b r (g .ensures) u (now (a .error));
+      predicted = unsolved-predictions (a .model) i _ _ r (g .ensures) u (now (a .predicted));
+      error = unsolved-errors (a .model) i _ _ r (g .ensures) u (now (a .error));
     }
 
 pub predict-accepted-spec : {M : Type 1} → statement M

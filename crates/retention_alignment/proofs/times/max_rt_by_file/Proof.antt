@@ -7,7 +7,7 @@ use native.Mathlib.Omega.{arith}
 use borrow.Author.Needs.{needs}
 use denote.Ref.{now}
 use lib.ListN.{length, getD, set, length-set}
-use Rattle.feature.proofs.Laws.{below-at}
+use Rattle.status.proofs.Laws.{below-at}
 use Rattle.matrix.proofs.Lists.{getD-same}
 use Rattle.retention_alignment.specs.Observation.{Obs, maxRt, observations}
 use Rattle.retention_alignment.proofs.Rows.{rowsFrom, rowAt, rows-cons, rows-none}

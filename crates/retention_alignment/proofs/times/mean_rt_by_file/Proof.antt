@@ -13,7 +13,7 @@ use denote.Ref.{now}
 use lib.ListN.{length, getD, set, length-set, replicate, length-replicate, getD-replicate}
 use lib.IntN.{ℤ, pos}
 use lib.Ieee.{Float, nan}
-use Rattle.feature.proofs.Laws.{below-at}
+use Rattle.status.proofs.Laws.{below-at}
 use Rattle.feature.specs.Feature.{trains}
 use Rattle.matrix.specs.Rows.{placeOf}
 use Rattle.matrix.proofs.Laws.{place-below}

@@ -1,7 +1,7 @@
--- `model_fit::checks::first_failing` meets its contract: the checks before the one that is answered passed, and that one failed.
-use Rattle.peptide.proofs.Laws.{fails, passes}
-use Rattle.model_fit.proofs.checks.first_failing.Statement.{statement}
-use Rattle.model_fit.proofs.checks.first_failing.Tie as tie
+-- `status::first_failing` meets its contract: the checks before the one that is answered passed, and that one failed.
+use Rattle.status.proofs.First.{fails, passes}
+use Rattle.status.proofs.first_failing.Statement.{statement}
+use Rattle.status.proofs.first_failing.Tie as tie
 
 returns : tie.Need-returns
 returns c = search fails

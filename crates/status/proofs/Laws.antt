@@ -9,7 +9,8 @@ use lib.Dec.{eqb, leb, ltb}
 use lib.ListN.{length, getD, take, drop}
 use lib.Seq.{drop-cons}
 use borrow.Author.Tests.{ltb-true, leb-true, eqb-true}
-use Rattle.feature.specs.Checks.{every, allBelow, lengthsAgree, withinLimits, withinRowLimits, maxFiles, maxRows, maxPeptides, maxCells}
+use Rattle.status.specs.Checks.{every, allBelow, lengthsAgree}
+use Rattle.status.specs.Limits.{withinLimits, withinRowLimits, withinSystemLimits, maxFiles, maxRows, maxPeptides, maxCells, maxOrder, maxColumns}
 
 -- both of two tests that pass together
 pub and-true : (a b : Bool) → (a && b) ≡ true → (a ≡ true) × (b ≡ true)
@@ -80,3 +81,16 @@ limits files rows peptides e =
     let u = and-true (leb 1 files) (leb files maxFiles) (t .0) in
     let r = row-limits rows peptides (t .1) in
     record { files-min = leb-true 1 files (u .0); files-max = leb-true files maxFiles (u .1); rows-max = r .rows-max; peptides-max = r .peptides-max; cells-max = leb-true (peptides * files) maxCells (s .1) }
+
+pub record SystemLimits (n c : ℕ) : Type 0 where
+  pub order : n ≤ maxOrder
+  pub columns : c ≤ maxColumns
+
+pub system-limits : (n c : ℕ) → withinSystemLimits n c ≡ true → SystemLimits n c
+system-limits n c e =
+    let s = and-true (leb 1 n && leb n maxOrder && leb 1 c) (leb c maxColumns) e in
+    let t = and-true (leb 1 n && leb n maxOrder) (leb 1 c) (s .0) in
+    record {
+      order = leb-true n maxOrder (and-true (leb 1 n) (leb n maxOrder) (t .0) .1);
+      columns = leb-true c maxColumns (s .1);
+    }

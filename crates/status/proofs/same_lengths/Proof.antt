@@ -1,9 +1,9 @@
--- `feature::same_lengths` meets its contract: each test's value from its fact.
+-- `status::same_lengths` meets its contract: each test's value from its fact.
 use mathlib.Core.Bool.{and-true}
 use borrow.Author.Tests.{eq-eqb, ne-eqb}
-use Rattle.feature.specs.Checks.{every}
-use Rattle.feature.proofs.same_lengths.Statement.{statement}
-use Rattle.feature.proofs.same_lengths.Tie as tie
+use Rattle.status.specs.Checks.{every}
+use Rattle.status.proofs.same_lengths.Statement.{statement}
+use Rattle.status.proofs.same_lengths.Tie as tie
 
 returns : tie.Need-returns
 unfolding every

@@ -1,4 +1,4 @@
--- `feature::all_below` meets its contract. The loop's invariant: what is left gives what the whole gives.
+-- `status::all_below` meets its contract. The loop's invariant: what is left gives what the whole gives.
 use mathlib.Core.Path.{_≡_, refl, sym, ap, _∙_}
 use mathlib.Core.Bool.{_&&_}
 use mathlib.Core.List.{List}
@@ -9,10 +9,10 @@ use lib.Dec.{ltb}
 use lib.ListN.{length, drop, getD, drop-of-length-le}
 use borrow.Author.Needs.{needs}
 use borrow.Author.Tests.{lt-ltb, le-ltb}
-use Rattle.feature.specs.Checks.{every, allBelow}
-use Rattle.feature.proofs.Laws.{every-step}
-use Rattle.feature.proofs.all_below.Statement.{statement}
-use Rattle.feature.proofs.all_below.Tie as tie
+use Rattle.status.specs.Checks.{every, allBelow}
+use Rattle.status.proofs.Laws.{every-step}
+use Rattle.status.proofs.all_below.Statement.{statement}
+use Rattle.status.proofs.all_below.Tie as tie
 
 abbrev Inv-loop : tie.InvT-loop
 Inv-loop xs n i₀ i = (i ≤ length xs) × (allBelow n (drop i xs) ≡ allBelow n xs)

@@ -1,7 +1,7 @@
--- `feature::row_limits` meets its contract: each test's value from its fact.
+-- `status::row_limits` meets its contract: each test's value from its fact.
 use borrow.Author.Tests.{le-leb, lt-leb}
-use Rattle.feature.proofs.row_limits.Statement.{statement}
-use Rattle.feature.proofs.row_limits.Tie as tie
+use Rattle.status.proofs.row_limits.Statement.{statement}
+use Rattle.status.proofs.row_limits.Tie as tie
 
 returns : tie.Need-returns
 returns c = simp (le-leb _ _ (c .if1 .taken))

@@ -1,0 +1,1 @@
+// How contracts name slices. There is no code here: specs/Slice.antt has the names.
