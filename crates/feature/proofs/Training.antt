@@ -1,4 +1,4 @@
--- Laws of the training rows: by rows and by columns, and the columns of rows.
+-- Laws of the rows that a test selects and of those that train: by rows and by columns, and the columns of rows.
 use mathlib.Core.Path.{_≡_, refl, sym, ap, _∙_}
 use mathlib.Core.Bool.{Bool, true, false, cond}
 use mathlib.Core.List.{List, [], _∷_, map, headD, tail}
@@ -7,22 +7,10 @@ use native.Mathlib.Nat.{le-of-suc-le-suc, not-suc-le-zero, suc-inj, suc-ne-zero}
 use native.Mathlib.Omega.{arith}
 use lib.IntN.{ℤ, pos}
 use lib.Ieee.{Float, nan}
-use lib.ListN.{length, getD, drop}
-use lib.Seq.{drop-cons}
-use Rattle.feature.specs.Feature.{Row, trains, rowTrains, training, mask, kept, rowsFrom}
+use lib.ListN.{length, getD}
+use Rattle.feature.specs.Feature.{Row, trains, rowTrains, selected, mask, kept, rowsFrom}
 
 module _ {A : Type 0} where
-  -- one mark and one element more
-  kept-cons : (b : Bool) (marks : List Bool) (x : A) (xs : List A) → kept (b ∷ marks) (x ∷ xs) ≡ cond b (x ∷ kept marks xs) (kept marks xs)
-  unfolding kept
-  kept-cons b marks x xs = refl
-
-  -- a loop's step: the element at i, where its mark is true, and the rest
-  pub kept-step : (i : ℕ) (marks : List Bool) (xs : List A) (d : A) → i < length marks → i < length xs
-      → kept (drop i marks) (drop i xs) ≡ cond (getD marks i false) (getD xs i d ∷ kept (drop (suc i) marks) (drop (suc i) xs)) (kept (drop (suc i) marks) (drop (suc i) xs))
-  unfolding kept
-  kept-step i marks xs d h l = rw (drop-cons marks i false h, drop-cons xs i d l)
-
   -- no more are kept than there are
   pub length-kept : (marks : List Bool) (xs : List A) → length (kept marks xs) ≤ length xs
   unfolding kept
@@ -40,29 +28,34 @@ module _ {A B : Type 0} (f : A → B) where
   map-kept (true ∷ marks) (x ∷ xs) = ap (λ (t : List B). f x ∷ t) (map-kept marks xs)
   map-kept (false ∷ marks) (x ∷ xs) = map-kept marks xs
 
--- the training rows are those whose mark is true
-pub training-kept : (rows : List Row) → training rows ≡ kept (map rowTrains rows) rows
-unfolding training kept
-training-kept [] = refl
-training-kept (r ∷ rows) = ap (λ (t : List Row). cond (rowTrains r) (r ∷ t) t) (training-kept rows)
+module _ (sel : Row → Bool) where
+  -- the selected rows are those whose mark is true
+  selected-kept : (rows : List Row) → selected sel rows ≡ kept (map sel rows) rows
+  unfolding selected kept
+  selected-kept [] = refl
+  selected-kept (r ∷ rows) = ap (λ (t : List Row). cond (sel r) (r ∷ t) t) (selected-kept rows)
 
--- a column of the training rows is what is kept of the column
-pub map-training : {A : Type 0} (f : Row → A) (rows : List Row) → map f (training rows) ≡ kept (map rowTrains rows) (map f rows)
-map-training f rows = ap (map f) (training-kept rows) ∙ map-kept f (map rowTrains rows) rows
+  -- a column of the selected rows is what is kept of the column
+  pub map-selected : {A : Type 0} (f : Row → A) (rows : List Row)
+      → map f (selected sel rows) ≡ kept (map sel rows) (map f rows)
+  map-selected f rows = ap (map f) (selected-kept rows) ∙ map-kept f (map sel rows) rows
 
 -- the marks, column by column
-pub mask-rows : (rows : List Row) → mask (map (λ (r : Row). r .label) rows) (map (λ (r : Row). r .q) rows) ≡ map rowTrains rows
+pub mask-rows : (rows : List Row)
+    → mask (map (λ (r : Row). r .label) rows) (map (λ (r : Row). r .q) rows) ≡ map rowTrains rows
 unfolding mask
 mask-rows [] = refl
 mask-rows (r ∷ rows) = ap (λ (t : List Bool). rowTrains r ∷ t) (mask-rows rows)
 
-pub length-mask : (labels : List ℤ) (qs : List Float) → length qs ≡ length labels → length (mask labels qs) ≡ length labels
+pub length-mask : (labels : List ℤ) (qs : List Float) → length qs ≡ length labels
+    → length (mask labels qs) ≡ length labels
 unfolding mask
 length-mask [] qs e = refl
 length-mask (l ∷ labels) [] e = e
 length-mask (l ∷ labels) (q ∷ qs) e = ap suc (length-mask labels qs (suc-inj e))
 
-pub mask-at : (labels : List ℤ) (qs : List Float) (i : ℕ) → i < length labels → i < length qs → getD (mask labels qs) i false ≡ trains (getD labels i (pos 0)) (getD qs i nan)
+pub mask-at : (labels : List ℤ) (qs : List Float) (i : ℕ) → i < length labels → i < length qs
+    → getD (mask labels qs) i false ≡ trains (getD labels i (pos 0)) (getD qs i nan)
 unfolding mask
 mask-at [] qs i h l = absurd (not-suc-le-zero h)
 mask-at (l ∷ labels) [] i h m = absurd (not-suc-le-zero m)
@@ -72,7 +65,8 @@ mask-at (l ∷ labels) (q ∷ qs) (suc i) h m = mask-at labels qs i (le-of-suc-l
 -- ---- the columns of rows that were made from columns
 
 -- seven columns, each as long as the first
-pub record Columns (n : ℕ) (files peptides : List ℕ) (labels : List ℤ) (qs rts : List Float) (charges : List ℕ) (mobilities : List Float) : Type 0 where
+pub record Columns (n : ℕ) (files peptides : List ℕ) (labels : List ℤ) (qs rts : List Float) (charges : List ℕ)
+    (mobilities : List Float) : Type 0 where
   pub files-long : length files ≡ n
   pub peptides-long : length peptides ≡ n
   pub labels-long : length labels ≡ n
@@ -82,7 +76,8 @@ pub record Columns (n : ℕ) (files peptides : List ℕ) (labels : List ℤ) (qs
   pub mobilities-long : length mobilities ≡ n
 
 -- the fields of the rows are these columns
-pub record Fields (rows : List Row) (files peptides : List ℕ) (labels : List ℤ) (qs rts : List Float) (charges : List ℕ) (mobilities : List Float) : Type 0 where
+pub record Fields (rows : List Row) (files peptides : List ℕ) (labels : List ℤ) (qs rts : List Float)
+    (charges : List ℕ) (mobilities : List Float) : Type 0 where
   pub files-are : map (λ (r : Row). r .file) rows ≡ files
   pub peptides-are : map (λ (r : Row). r .peptide) rows ≡ peptides
   pub labels-are : map (λ (r : Row). r .label) rows ≡ labels
@@ -105,16 +100,34 @@ module _ {A : Type 0} where
   head-and-tail n d [] t e r = absurd (suc-ne-zero n (sym e))
   head-and-tail n d (x ∷ xs) t e r = ap (λ (u : List A). x ∷ u) r
 
-pub fields-rowsFrom : (n : ℕ) (fs ps : List ℕ) (ls : List ℤ) (qs ts : List Float) (cs : List ℕ) (ms : List Float) → Columns n fs ps ls qs ts cs ms → Fields (rowsFrom fs ps ls qs ts cs ms) fs ps ls qs ts cs ms
+pub fields-rowsFrom : (n : ℕ) (fs ps : List ℕ) (ls : List ℤ) (qs ts : List Float) (cs : List ℕ) (ms : List Float)
+    → Columns n fs ps ls qs ts cs ms → Fields (rowsFrom fs ps ls qs ts cs ms) fs ps ls qs ts cs ms
 unfolding rowsFrom
 fields-rowsFrom n [] ps ls qs ts cs ms k =
     let z : 0 ≡ n = k .files-long in
-    record { files-are = refl; peptides-are = none-left ps (k .peptides-long ∙ sym z); labels-are = none-left ls (k .labels-long ∙ sym z); qs-are = none-left qs (k .qs-long ∙ sym z); rts-are = none-left ts (k .rts-long ∙ sym z); charges-are = none-left cs (k .charges-long ∙ sym z); mobilities-are = none-left ms (k .mobilities-long ∙ sym z) }
+    record {
+      files-are = refl;
+      peptides-are = none-left ps (k .peptides-long ∙ sym z);
+      labels-are = none-left ls (k .labels-long ∙ sym z);
+      qs-are = none-left qs (k .qs-long ∙ sym z);
+      rts-are = none-left ts (k .rts-long ∙ sym z);
+      charges-are = none-left cs (k .charges-long ∙ sym z);
+      mobilities-are = none-left ms (k .mobilities-long ∙ sym z);
+    }
 fields-rowsFrom n (f ∷ fs) ps ls qs ts cs ms k =
     let m : ℕ = length fs in
     let e : n ≡ suc m = sym (k .files-long) in
-    let r = fields-rowsFrom m fs (tail ps) (tail ls) (tail qs) (tail ts) (tail cs) (tail ms)
-    (record { files-long = refl; peptides-long = length-tail m ps (k .peptides-long ∙ e); labels-long = length-tail m ls (k .labels-long ∙ e); qs-long = length-tail m qs (k .qs-long ∙ e); rts-long = length-tail m ts (k .rts-long ∙ e); charges-long = length-tail m cs (k .charges-long ∙ e); mobilities-long = length-tail m ms (k .mobilities-long ∙ e) }) in
+    let l : Columns m fs (tail ps) (tail ls) (tail qs) (tail ts) (tail cs) (tail ms) =
+    record {
+      files-long = refl;
+      peptides-long = length-tail m ps (k .peptides-long ∙ e);
+      labels-long = length-tail m ls (k .labels-long ∙ e);
+      qs-long = length-tail m qs (k .qs-long ∙ e);
+      rts-long = length-tail m ts (k .rts-long ∙ e);
+      charges-long = length-tail m cs (k .charges-long ∙ e);
+      mobilities-long = length-tail m ms (k .mobilities-long ∙ e);
+    } in
+    let r = fields-rowsFrom m fs (tail ps) (tail ls) (tail qs) (tail ts) (tail cs) (tail ms) l in
     record {
       files-are = ap (λ (t : List ℕ). f ∷ t) (r .files-are);
       peptides-are = head-and-tail m 0 ps _ (k .peptides-long ∙ e) (r .peptides-are);
@@ -126,7 +139,8 @@ fields-rowsFrom n (f ∷ fs) ps ls qs ts cs ms k =
     }
 
 -- and their marks are the columns' marks
-pub mask-rowsFrom : (n : ℕ) (fs ps : List ℕ) (ls : List ℤ) (qs ts : List Float) (cs : List ℕ) (ms : List Float) → Columns n fs ps ls qs ts cs ms
+pub mask-rowsFrom : (n : ℕ) (fs ps : List ℕ) (ls : List ℤ) (qs ts : List Float) (cs : List ℕ) (ms : List Float)
+    → Columns n fs ps ls qs ts cs ms
     → mask ls qs ≡ map rowTrains (rowsFrom fs ps ls qs ts cs ms)
 mask-rowsFrom n fs ps ls qs ts cs ms k =
     let r = fields-rowsFrom n fs ps ls qs ts cs ms k in

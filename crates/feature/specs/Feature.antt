@@ -1,6 +1,6 @@
 -- A row, and which rows train, as document 01 has them.
 use Prim.Native.Nat.{ℕ}
-use mathlib.Core.Bool.{Bool, false, _&&_, cond}
+use mathlib.Core.Bool.{Bool, false, not, _&&_, cond}
 use mathlib.Core.List.{List, [], _∷_, headD, tail}
 use lib.Dec.{eqb}
 use lib.IntN.{ℤ, pos, negsuc}
@@ -31,10 +31,18 @@ trains label q = isOne label && le q maxQ
 abbrev pub rowTrains : Row → Bool
 rowTrains r = trains (r .label) (r .q)
 
--- the rows that train, in order
-unfoldable pub training : List Row → List Row
-training [] = []
-training (r ∷ rows) = cond (rowTrains r) (r ∷ training rows) (training rows)
+-- every other row
+abbrev pub outside : Row → Bool
+outside r = not (rowTrains r)
+
+-- the rows that a test selects, in order
+unfoldable pub selected : (sel : Row → Bool) → List Row → List Row
+selected sel [] = []
+selected sel (r ∷ rows) = cond (sel r) (r ∷ selected sel rows) (selected sel rows)
+
+-- the rows that train
+abbrev pub training : List Row → List Row
+training = selected rowTrains
 
 -- column by column: whether each row trains
 unfoldable pub mask : List ℤ → List Float → List Bool
@@ -49,8 +57,17 @@ kept (b ∷ marks) [] = []
 kept (b ∷ marks) (x ∷ xs) = cond b (x ∷ kept marks xs) (kept marks xs)
 
 -- the rows whose fields are these columns, all as long as the first
-unfoldable pub rowsFrom : (files peptides : List ℕ) (labels : List ℤ) (qs rts : List Float) (charges : List ℕ) (mobilities : List Float) → List Row
+unfoldable pub rowsFrom : (files peptides : List ℕ) (labels : List ℤ) (qs rts : List Float) (charges : List ℕ)
+    (mobilities : List Float) → List Row
 rowsFrom [] peptides labels qs rts charges mobilities = []
 rowsFrom (f ∷ files) peptides labels qs rts charges mobilities =
-    record { file = f; peptide = headD peptides 0; label = headD labels (pos 0); q = headD qs nan; rt = headD rts nan; charge = headD charges 0; mobility = headD mobilities nan }
+    record {
+      file = f;
+      peptide = headD peptides 0;
+      label = headD labels (pos 0);
+      q = headD qs nan;
+      rt = headD rts nan;
+      charge = headD charges 0;
+      mobility = headD mobilities nan;
+    }
     ∷ rowsFrom files (tail peptides) (tail labels) (tail qs) (tail rts) (tail charges) (tail mobilities)

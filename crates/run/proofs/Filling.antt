@@ -33,7 +33,7 @@ use Rattle.matrix.specs.Lists.{overwritten}
 use Rattle.models.specs.Prediction.{predictions, errors, errorOf, isSolved, predictionOf}
 use Rattle.models.specs.Call.{PredictSlices, PredictCall, predictStatus}
 use Rattle.models.specs.declared.FitAnswer.{FitAnswer}
-use Rattle.run.specs.Fitted.{RowOutcome, rowQuery, rowSample, target, fitTo, recordsOf, fitted, fitOfModel, outcome}
+use Rattle.run.specs.Fitted.{RowOutcome, ofRetention, ofMobility, target, fitted, outcome}
 use Rattle.run.specs.Call.{Input, Slices, rows, peptides, neededCells, roomOf, fittedBy, outcomes, predictionsOf, errorsOf, outcomeOf, answerOf, toldOf, toldRefused, toldBy, filled, Filled, slicesAfter, RunCall, status}
 use Rattle.run.specs.declared.RunAnswer.{RunAnswer}
 use Rattle.run.specs.declared.RunAnswer.the-variants.{Ran, Refused}
@@ -98,18 +98,18 @@ module _ (i : Input) (s : Slices) (p : Passed i (roomOf s)) where
         ap (fitOf (orderOf Retention))
         (samples-of (rows i) (i .file) (i .peptide) (i .label) (i .q) (i .rt) (i .charge) (i .mobility) f m Retention (i .table) (fittedBy i .records) [] observed (retention-queries (rows i) (i .file) (i .peptide) (i .label) (i .q) (i .rt) (i .charge) (i .mobility) f m) o)
 
-    retention-predictions : predictions Retention (retentionInput observed) ≡ predictionsFor Retention (i .table) (fittedBy i) (rows i)
+    retention-predictions : predictions Retention (retentionInput observed) ≡ predictionsFor ofRetention (i .table) (fittedBy i) (rows i)
     retention-predictions =
         let f = fields i (p .columns) in
         let m = marks i (p .columns) in
         ap (λ (x : Fit). cond (isSolved (x .outcome)) (map (predictionOf Retention (i .table) (x .beta)) (queries (i .peptide) [])) []) retention-fit
         ∙ ap (λ (x : List Query). cond (isSolved (fittedBy i .retention .outcome)) (map (predictionOf Retention (i .table) (fittedBy i .retention .beta)) x) []) (retention-queries (rows i) (i .file) (i .peptide) (i .label) (i .q) (i .rt) (i .charge) (i .mobility) f m)
 
-    retention-errors : errors Retention (retentionInput observed) ≡ errorsOf Retention i
+    retention-errors : errors Retention (retentionInput observed) ≡ errorsOf ofRetention i
     retention-errors =
         ap (zipWith errorOf observed) retention-predictions
-        ∙ ap (λ (x : List Float). zipWith errorOf x (predictionsFor Retention (i .table) (fittedBy i) (rows i))) o
-        ∙ errors-written Retention (i .table) (fittedBy i) (rows i)
+        ∙ ap (λ (x : List Float). zipWith errorOf x (predictionsFor ofRetention (i .table) (fittedBy i) (rows i))) o
+        ∙ errors-written ofRetention (i .table) (fittedBy i) (rows i)
 
   mobility-fit : fitOn Mobility mobilityInput ≡ fittedBy i .mobility
   unfolding fitted
@@ -120,7 +120,7 @@ module _ (i : Input) (s : Slices) (p : Passed i (roomOf s)) where
       (samples-of (rows i) (i .file) (i .peptide) (i .label) (i .q) (i .rt) (i .charge) (i .mobility) f m Mobility (mobilityInput .table) (fittedBy i .records) (i .charge) (i .mobility) (mobility-queries (rows i) (i .file) (i .peptide) (i .label) (i .q) (i .rt) (i .charge) (i .mobility) f m) (sym (f .mobilities-are))
       ∙ mobility-samples (i .table .letters) (i .table .offsets) (i .table .masses) (i .table .logs) (fittedBy i .records) (training (rows i)))
 
-  mobility-predicted : predictions Mobility mobilityInput ≡ predictionsFor Mobility (i .table) (fittedBy i) (rows i)
+  mobility-predicted : predictions Mobility mobilityInput ≡ predictionsFor ofMobility (i .table) (fittedBy i) (rows i)
   mobility-predicted =
       let f = fields i (p .columns) in
       let m = marks i (p .columns) in
@@ -128,11 +128,11 @@ module _ (i : Input) (s : Slices) (p : Passed i (roomOf s)) where
       ∙ ap (λ (x : List Float). cond (isSolved (fittedBy i .mobility .outcome)) x []) (mobility-predictions (i .table .letters) (i .table .offsets) (i .table .masses) (i .table .logs) (fittedBy i .mobility .beta) (queries (i .peptide) (i .charge)))
       ∙ ap (λ (x : List Query). cond (isSolved (fittedBy i .mobility .outcome)) (map (predictionOf Mobility (i .table) (fittedBy i .mobility .beta)) x) []) (mobility-queries (rows i) (i .file) (i .peptide) (i .label) (i .q) (i .rt) (i .charge) (i .mobility) f m)
 
-  mobility-errors : errors Mobility mobilityInput ≡ errorsOf Mobility i
+  mobility-errors : errors Mobility mobilityInput ≡ errorsOf ofMobility i
   mobility-errors =
       ap (zipWith errorOf (i .mobility)) mobility-predicted
-      ∙ ap (λ (x : List Float). zipWith errorOf x (predictionsFor Mobility (i .table) (fittedBy i) (rows i))) (sym (fields i (p .columns) .mobilities-are))
-      ∙ errors-written Mobility (i .table) (fittedBy i) (rows i)
+      ∙ ap (λ (x : List Float). zipWith errorOf x (predictionsFor ofMobility (i .table) (fittedBy i) (rows i))) (sym (fields i (p .columns) .mobilities-are))
+      ∙ errors-written ofMobility (i .table) (fittedBy i) (rows i)
 
   -- ---- the models accept
 
@@ -177,15 +177,15 @@ module _ (i : Input) (s : Slices) (p : Passed i (roomOf s)) where
       let n : ℕ = length (i .file) in
       let a : AlignPart i s t = align-part i s p t answer c in
       let o = targets-written t a in
-      let x : ModelPart Retention i (retentionSlices (t .workspace)) t₁ r₁ =
-      model-part Retention i (retentionInput (take n (t .aligned))) (retentionSlices (t .workspace)) t₁ r₁
+      let x : ModelPart ofRetention i (retentionSlices (t .workspace)) t₁ r₁ =
+      model-part ofRetention i (retentionInput (take n (t .aligned))) (retentionSlices (t .workspace)) t₁ r₁
       (retention-accepts (take n (t .aligned)) (t .workspace) (length-take-le n (t .aligned) (omega (arith, p .long .aligned))) lw)
       (retention-fit (take n (t .aligned)) o)
-      (retention-predictions (take n (t .aligned)) o ∙ predictions-written Retention (i .table) (fittedBy i) (rows i))
+      (retention-predictions (take n (t .aligned)) o ∙ predictions-written ofRetention (i .table) (fittedBy i) (rows i))
       (retention-errors (take n (t .aligned)) o)
       c₁ in
-      let y : ModelPart Mobility i (mobilitySlices (t₁ .workspace)) t₂ r₂ =
-      model-part Mobility i mobilityInput (mobilitySlices (t₁ .workspace)) t₂ r₂ (mobility-accepts (t₁ .workspace) l₁) mobility-fit (mobility-predicted ∙ predictions-written Mobility (i .table) (fittedBy i) (rows i)) mobility-errors c₂ in
+      let y : ModelPart ofMobility i (mobilitySlices (t₁ .workspace)) t₂ r₂ =
+      model-part ofMobility i mobilityInput (mobilitySlices (t₁ .workspace)) t₂ r₂ (mobility-accepts (t₁ .workspace) l₁) mobility-fit (mobility-predicted ∙ predictions-written ofMobility (i .table) (fittedBy i) (rows i)) mobility-errors c₂ in
       let cells : ℕ = peptides i * i .files in
       let workspace-is : t₂ .workspace ≡ filled i s .workspace =
       y .workspace

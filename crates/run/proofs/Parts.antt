@@ -1,4 +1,5 @@
--- What each part of an accepted run leaves, in the run's own words: the alignment, and the fit and the predictions of either model.
+-- What each part of an accepted run leaves, in the run's own words: the alignment, and the fit and the predictions of
+-- either model.
 use mathlib.Core.Path.{_≡_, refl, sym, ap, _∙_}
 use mathlib.Core.Bool.{Bool, true, false, cond}
 use mathlib.Core.List.{List, [], _∷_, _++_, map, zipWith}
@@ -29,7 +30,8 @@ use Rattle.models.specs.Prediction.{predictions, errors, errorOf, isSolved, pre
 use Rattle.models.specs.Call.{PredictSlices, PredictCall, predictStatus, predictFilled, answerOf, ifAccepted}
 use Rattle.models.specs.declared.FitAnswer.{FitAnswer}
 use Rattle.models.specs.declared.FitAnswer.the-variants.{Fitted}
-use Rattle.run.specs.Fitted.{Predicted, RowOutcome, obsOf, rowQuery, target, longest, recordsOf, fitted, fitOfModel, outcome}
+use Rattle.run.specs.Fitted.{RowOutcome, obsOf, target, longest, fileRecords, fitted, outcome}
+use Rattle.run.specs.Fitted.{Part, modelOf, fitOfPart}
 use Rattle.run.specs.Call.{Input, Slices, rows, peptides, roomOf, fittedBy, outcomes, predictionsOf, errorsOf}
 use Rattle.run.proofs.Rows.{rows-observed, training-observed, retention-queries, mobility-queries, samples-of, mobility-samples, mobility-predictions, map-twice, predictionsFor, predictions-written, errors-written}
 use Rattle.run.proofs.Accepted.{Passed, align-accepts}
@@ -66,7 +68,7 @@ pub record AlignPart (i : Input) (s : Slices) (t : AlignSlices) : Type 0 where
 
 module _ (i : Input) (s : Slices) (p : Passed i (roomOf s)) where
   records-are : recordsFor (alignInput i) ≡ fittedBy i .records
-  unfolding fitted recordsOf
+  unfolding fitted fileRecords
   records-are =
       ap (λ (os : List Obs). alignments (i .files) (peptides i) (maxRts (i .files) os) (kept (mask (i .label) (i .q)) (observations (i .file) (i .peptide) (i .rt)))) (observed-rows i (p .columns))
       ∙ ap (alignments (i .files) (peptides i) (longest (i .files) (rows i))) (observed-training i (p .columns))
@@ -101,17 +103,21 @@ module _ (i : Input) (s : Slices) (p : Passed i (roomOf s)) where
 
 -- ---- a model
 
-pub record ModelPart (model : Model) (i : Input) (s t : PredictSlices) (r : FitAnswer) : Type 0 where
-  pub answer : r ≡ Fitted (fitOfModel model (fittedBy i) .outcome)
-  pub workspace : t .workspace ≡ overwritten (replicate (workspaceCells (orderOf model)) zero64) (s .workspace)
-  pub beta : t .beta ≡ overwritten (fitOfModel model (fittedBy i) .beta) (s .beta)
-  pub predicted : t .predicted ≡ overwritten (predictionsOf model i) (s .predicted)
-  pub error : t .error ≡ overwritten (errorsOf model i) (s .error)
+pub record ModelPart (part : Part) (i : Input) (s t : PredictSlices) (r : FitAnswer) : Type 0 where
+  pub answer : r ≡ Fitted (fitOfPart part (fittedBy i) .outcome)
+  pub workspace : t .workspace ≡ overwritten (replicate (workspaceCells (orderOf (modelOf part))) zero64) (s .workspace)
+  pub beta : t .beta ≡ overwritten (fitOfPart part (fittedBy i) .beta) (s .beta)
+  pub predicted : t .predicted ≡ overwritten (predictionsOf part i) (s .predicted)
+  pub error : t .error ≡ overwritten (errorsOf part i) (s .error)
 
-module _ (model : Model) (i : Input) (m : ModelInput) (s t : PredictSlices) (r : FitAnswer) (accept : predictStatus model m s ≡ accepted)
-    (fit : fitOn model m ≡ fitOfModel model (fittedBy i)) (predictions-are : predictions model m ≡ predictionsOf model i) (errors-are : errors model m ≡ errorsOf model i) where
-  pub model-part : PredictCall model m (change s t) r → ModelPart model i s t r
+module _ (part : Part) (i : Input) (m : ModelInput) (s t : PredictSlices) (r : FitAnswer)
+    (accept : predictStatus (modelOf part) m s ≡ accepted)
+    (fit : fitOn (modelOf part) m ≡ fitOfPart part (fittedBy i))
+    (predictions-are : predictions (modelOf part) m ≡ predictionsOf part i)
+    (errors-are : errors (modelOf part) m ≡ errorsOf part i) where
+  pub model-part : PredictCall (modelOf part) m (change s t) r → ModelPart part i s t r
   model-part c =
+      let model = modelOf part in
       let after-is : t ≡ predictFilled model m s = c .slices ∙ ap (λ (n : ℕ). ifAccepted n (predictFilled model m s) s) accept in
       record {
         answer = c .answer ∙ ap (λ (n : ℕ). answerOf n (fitOn model m)) accept ∙ ap (λ (f : Fit). Fitted (f .outcome)) fit;

@@ -17,7 +17,6 @@ use Rattle.status.specs.Limits.{withinLimits}
 use Rattle.status.specs.Status.{accepted, badLengths, pastLimit, tooShort, badOffsets, badLetter, badFile, badPeptide, firstFailing}
 use Rattle.peptide.specs.Table.{Table, offsetsRight, lettersRight}
 use Rattle.embedding.specs.Design.{orderOf}
-use Rattle.embedding.specs.declared.Model.{Model}
 use Rattle.embedding.specs.declared.Model.the-variants.{Retention, Mobility}
 use Rattle.rt_matrix.specs.Line.{present}
 use Rattle.rt_matrix.specs.declared.Alignment.{Alignment}
@@ -28,7 +27,8 @@ use Rattle.model_fit.specs.Input.{tableOf, workspaceCells}
 use Rattle.matrix.specs.Lists.{overwritten}
 use Rattle.models.specs.declared.FitAnswer.{FitAnswer}
 use Rattle.models.specs.declared.FitAnswer.the-variants.{Fitted, Refused as NoFit}
-use Rattle.run.specs.Fitted.{Fitted as FittedNumbers, Predicted, RowOutcome, longest, fitted, fitOfModel, outcome}
+use Rattle.run.specs.Fitted.{Fitted as FittedNumbers, Predicted, RowOutcome, longest, fitted, outcome}
+use Rattle.run.specs.Fitted.{Part, ofRetention, ofMobility, fitOfPart, resultOf}
 use Rattle.run.specs.declared.checks.Room.{Room}
 use Rattle.run.specs.declared.RunAnswer.{RunAnswer}
 use Rattle.run.specs.declared.RunAnswer.the-variants.{Ran, Refused}
@@ -217,23 +217,22 @@ abbrev pub outcomes : Input → List RowOutcome
 outcomes i = map (outcome (i .table) (fittedBy i)) (rows i)
 
 -- a model's predictions and errors, where it fits
-abbrev pub predictedOf : Model → Input → List Predicted
-predictedOf Retention i = present (map (λ (o : RowOutcome). o .retention) (outcomes i))
-predictedOf Mobility i = present (map (λ (o : RowOutcome). o .mobility) (outcomes i))
+abbrev pub predictedOf : Part → Input → List Predicted
+predictedOf part i = present (map (resultOf part) (outcomes i))
 
-abbrev pub predictionsOf : Model → Input → List Float
-predictionsOf model i = map (λ (p : Predicted). p .prediction) (predictedOf model i)
+abbrev pub predictionsOf : Part → Input → List Float
+predictionsOf part i = map (λ (p : Predicted). p .prediction) (predictedOf part i)
 
-abbrev pub errorsOf : Model → Input → List Float
-errorsOf model i = map (λ (p : Predicted). p .error) (predictedOf model i)
+abbrev pub errorsOf : Part → Input → List Float
+errorsOf part i = map (λ (p : Predicted). p .error) (predictedOf part i)
 
 -- what an accepted call leaves of a model
-abbrev pub filledModel : Model → Input → ModelSlices → ModelSlices
-filledModel model i s =
+abbrev pub filledModel : Part → Input → ModelSlices → ModelSlices
+filledModel part i s =
     record {
-      beta = overwritten (fitOfModel model (fittedBy i) .beta) (s .beta);
-      predicted = overwritten (predictionsOf model i) (s .predicted);
-      error = overwritten (errorsOf model i) (s .error);
+      beta = overwritten (fitOfPart part (fittedBy i) .beta) (s .beta);
+      predicted = overwritten (predictionsOf part i) (s .predicted);
+      error = overwritten (errorsOf part i) (s .error);
     }
 
 -- and of all
@@ -245,8 +244,8 @@ filled i s =
       slope = overwritten (map (λ (a : Alignment). a .slope) (fittedBy i .records)) (s .slope);
       intercept = overwritten (map (λ (a : Alignment). a .intercept) (fittedBy i .records)) (s .intercept);
       aligned = overwritten (map (λ (o : RowOutcome). o .aligned) (outcomes i)) (s .aligned);
-      retention = filledModel Retention i (s .retention);
-      mobility = filledModel Mobility i (s .mobility);
+      retention = filledModel ofRetention i (s .retention);
+      mobility = filledModel ofMobility i (s .mobility);
     }
 
 -- the outcome that an answer carries; one that is refused, which no accepted run gets, counts as not solved

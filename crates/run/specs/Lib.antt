@@ -1,5 +1,3 @@
--- What a run gives, from the training rows, the peptide table and the longest times; the call of `run`; edits of a list of rows.
+-- What a run gives, from the training rows, the peptide table and the longest times; and the call of `run`.
 pub mod Fitted
 pub mod Call
-pub mod Edits
-pub mod Ends
