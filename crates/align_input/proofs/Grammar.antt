@@ -21,8 +21,37 @@ use Rattle.text.proofs.Cases.{by-bool, some-none}
 use Rattle.text.proofs.Lines.{Reads, Continues, then-continues, give-continues}
 use Rattle.text.proofs.Numbers.{decimal-line-reads, signed-line-reads, hex-line-reads}
 use Rattle.align_input.specs.declared.TextRow.{TextRow}
-use Rattle.align_input.specs.Input.{Input, RowInRange, Each, nil, cons, InRange, rowText, render, maxU32, maxBytes, filesKey, peptidesKey, fileKey, peptideKey, labelKey, qKey, rtKey}
-use Rattle.align_input.specs.Parse.{rowRead, onRow, consRow, rowsFrom, rowsOf, Head, headRead, withRows, afterHead, parse}
+use Rattle.align_input.specs.Input.{
+  Input,
+  RowInRange,
+  Each,
+  nil,
+  cons,
+  InRange,
+  rowText,
+  render,
+  maxU32,
+  maxBytes,
+  filesKey,
+  peptidesKey,
+  fileKey,
+  peptideKey,
+  labelKey,
+  qKey,
+  rtKey,
+}
+use Rattle.align_input.specs.Parse.{
+  rowRead,
+  onRow,
+  consRow,
+  rowsFrom,
+  rowsOf,
+  Head,
+  headRead,
+  withRows,
+  afterHead,
+  parse,
+}
 
 -- ---- a row: its five lines, one after the other
 abbrev None : Type 0

@@ -14,7 +14,16 @@ use Rattle.text.specs.Reader.{Read, value, malformed, Reader, further, give, _>
 use Rattle.text.specs.Line.{lineOf, decimalLine, signedLine, hexLine}
 use Rattle.text.specs.Answer.{decimalLineAt, signedLineAt, hexLineAt}
 use Rattle.text.proofs.Numbers.{hex-line-reads}
-use Rattle.text.proofs.Places.{decimal-line-none, decimal-line-some, signed-line-none, signed-line-some, hex-line-none, hex-line-some, chain-none, chain-some}
+use Rattle.text.proofs.Places.{
+  decimal-line-none,
+  decimal-line-some,
+  signed-line-none,
+  signed-line-some,
+  hex-line-none,
+  hex-line-some,
+  chain-none,
+  chain-some,
+}
 use Rattle.align_input.specs.declared.TextRow.{TextRow}
 use Rattle.align_input.specs.declared.RowRead.the-variants.{Row, Malformed}
 use Rattle.align_input.specs.declared.HeadRead.the-variants as H

@@ -17,7 +17,18 @@ use Rattle.align_input.specs.declared.RowRead.the-variants.{Row, Malform
 use Rattle.align_input.specs.declared.RowsRead.the-variants as RS
 use Rattle.align_input.specs.declared.HeadRead.the-variants as H
 use Rattle.align_input.specs.Input.{Input, maxBytes}
-use Rattle.align_input.specs.Parse.{rowRead, onRow, consRow, rowsFrom, rowsOf, Head, headRead, withRows, afterHead, parse}
+use Rattle.align_input.specs.Parse.{
+  rowRead,
+  onRow,
+  consRow,
+  rowsFrom,
+  rowsOf,
+  Head,
+  headRead,
+  withRows,
+  afterHead,
+  parse,
+}
 use Rattle.align_input.specs.Columns.{rowAt, headAt, countFrom, Columns, columns, storedRow, stored}
 use Rattle.align_input.proofs.Grammar.{row-reads, row-some, rows-empty, rows-step, rows-row}
 

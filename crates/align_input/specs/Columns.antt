@@ -3,6 +3,8 @@ use Prim.Native.Nat.{ℕ, _+_}
 use mathlib.Core.Path.{_≡_}
 use mathlib.Core.List.{List, map}
 use mathlib.Core.Option.{Option, none, some}
+use denote.Ref.{now}
+use Rattle.params.specs.Slice.{Change, change, Slice}
 use lib.ListN.{length, set}
 use lib.Seq.{sets}
 use lib.IntN.{ℤ}
@@ -56,6 +58,13 @@ pub record Columns : Type 0 where
 
 abbrev pub columns : List ℕ → List ℕ → List ℤ → List Float → List Float → Columns
 columns file peptide label q rt = record { file = file; peptide = peptide; label = label; q = q; rt = rt }
+
+-- as a function's parameters hold them, in an `ensures`
+abbrev pub columnsOf : (file peptide : Slice ℕ) (label : Slice ℤ) (q rt : Slice Float) → Change Columns
+columnsOf file peptide label q rt =
+    change
+    (columns (now (file .entry)) (now (peptide .entry)) (now (label .entry)) (now (q .entry)) (now (rt .entry)))
+    (columns (now (file .exit)) (now (peptide .exit)) (now (label .exit)) (now (q .exit)) (now (rt .exit)))
 
 -- a row stored in the i-th cells, if there are such cells
 abbrev pub storedRow : Columns → ℕ → TextRow → Columns

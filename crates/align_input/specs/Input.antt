@@ -52,7 +52,9 @@ rowText r =
 -- the text of an input: a text is well formed exactly if it is the text of an input in range, and not too long
 unfoldable pub render : Input → List ℕ
 unfolding flatten rowText decimalOf
-render d = flatten (line filesKey (decimalOf (d .files)) ∷ line peptidesKey (decimalOf (d .peptides)) ∷ map rowText (d .rows))
+render d =
+    flatten
+    (line filesKey (decimalOf (d .files)) ∷ line peptidesKey (decimalOf (d .peptides)) ∷ map rowText (d .rows))
 
 -- the largest u32
 abbrev pub maxU32 : ℕ

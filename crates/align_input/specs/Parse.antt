@@ -1,4 +1,5 @@
--- Reading a text of the align program. That it takes exactly the texts of the grammar, each as its input, is proved (`proofs/Grammar.antt`). Definitions only.
+-- Reading a text of the align program. That it takes exactly the texts of the grammar, each as its input, is proved
+-- (`proofs/Grammar.antt`). Definitions only.
 use Prim.Native.Nat.{ℕ, zero, suc, _+_}
 use mathlib.Core.Bool.{Bool, cond}
 use mathlib.Core.List.{List, [], _∷_}
@@ -8,7 +9,18 @@ use lib.ListN.{length, drop}
 use Rattle.text.specs.Reader.{Read, value, malformed, Reader, give, _>>=_}
 use Rattle.text.specs.Line.{decimalLine, signedLine, hexLine}
 use Rattle.align_input.specs.declared.TextRow.{TextRow}
-use Rattle.align_input.specs.Input.{Input, filesKey, peptidesKey, fileKey, peptideKey, labelKey, qKey, rtKey, maxU32, maxBytes}
+use Rattle.align_input.specs.Input.{
+  Input,
+  filesKey,
+  peptidesKey,
+  fileKey,
+  peptideKey,
+  labelKey,
+  qKey,
+  rtKey,
+  maxU32,
+  maxBytes,
+}
 
 -- the five lines of a row
 unfoldable pub rowRead : Reader TextRow

@@ -7,7 +7,7 @@ ghost use lib.Ieee.{binary32, ofBits};
 ghost use Rattle.align_input.specs.declared.TextRow.{TextRow as TextRow·};
 ghost use Rattle.align_input.specs.Input.{Input};
 ghost use Rattle.align_input.specs.Parse.{rowRead, rowsOf, headRead, parse};
-ghost use Rattle.align_input.specs.Columns.{rowAt, headAt, countFrom, inputRead, columns, storedRow, stored};
+ghost use Rattle.align_input.specs.Columns.{rowAt, headAt, countFrom, inputRead, columnsOf, storedRow, stored};
 use text::DecimalLine;
 use text::HexLine;
 use text::SignedLine;
@@ -155,7 +155,8 @@ fn store_row(
     q: &mut [f32],
     rt: &mut [f32],
 )
-    ensures { λ _. ⌜ columns (now (file .exit)) (now (peptide .exit)) (now (label .exit)) (now (q .exit)) (now (rt .exit)) ≡ storedRow (columns (now (file .entry)) (now (peptide .entry)) (now (label .entry)) (now (q .entry)) (now (rt .entry))) i row ⌝ }
+    ensures { λ _. ⌜ columnsOf file peptide label q rt .exit
+        ≡ storedRow (columnsOf file peptide label q rt .entry) i row ⌝ }
 {
     store_u32(file, i, row.file);
     store_u32(peptide, i, row.peptide);
@@ -181,7 +182,8 @@ fn read_rows(
     rt: &mut [f32],
 ) -> RowsRead
     ensures { λ r. ⌜ r ≡ countFrom 0 (rowsOf (drop at (now (input .entry)))) ⌝ }
-    ensures { λ r. ⌜ ((rows : List TextRow·) → rowsOf (drop at (now (input .entry))) ≡ some rows → columns (now (file .exit)) (now (peptide .exit)) (now (label .exit)) (now (q .exit)) (now (rt .exit)) ≡ stored (columns (now (file .entry)) (now (peptide .entry)) (now (label .entry)) (now (q .entry)) (now (rt .entry))) 0 rows) ⌝ }
+    ensures { λ r. ⌜ ((rows : List TextRow·) → rowsOf (drop at (now (input .entry))) ≡ some rows
+        → columnsOf file peptide label q rt .exit ≡ stored (columnsOf file peptide label q rt .entry) 0 rows) ⌝ }
 {
     let mut next = at;
     let mut i = 0;
@@ -216,7 +218,8 @@ pub fn read_input(
     rt: &mut [f32],
 ) -> InputRead
     ensures { λ r. ⌜ r ≡ inputRead (parse (now (input .entry))) ⌝ }
-    ensures { λ r. ⌜ ((d : Input) → parse (now (input .entry)) ≡ some d → columns (now (file .exit)) (now (peptide .exit)) (now (label .exit)) (now (q .exit)) (now (rt .exit)) ≡ stored (columns (now (file .entry)) (now (peptide .entry)) (now (label .entry)) (now (q .entry)) (now (rt .entry))) 0 (d .rows)) ⌝ }
+    ensures { λ r. ⌜ ((d : Input) → parse (now (input .entry)) ≡ some d
+        → columnsOf file peptide label q rt .exit ≡ stored (columnsOf file peptide label q rt .entry) 0 (d .rows)) ⌝ }
 {
     if input.len() > BYTES_MAX {
         return InputRead::Malformed;

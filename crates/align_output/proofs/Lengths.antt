@@ -1,6 +1,6 @@
 -- How long the parts of an answer are, and the next part of a run of them.
-use mathlib.Core.Path.{_≡_, refl, ap, ap₂, _∙_}
-use mathlib.Core.List.{List, [], _∷_, _++_, flatten, headD, tail}
+use mathlib.Core.Path.{_≡_, refl, ap}
+use mathlib.Core.List.{List, [], _∷_, _++_, flatten}
 use Prim.Native.Nat.{ℕ, _+_, _*_, _^_, _≤_, _<_}
 use native.Mathlib.Omega.{arith}
 use lib.ListN.{length, drop, getD, length-append, drop-of-length-le}
@@ -11,7 +11,21 @@ use Rattle.text.specs.Decimal.{decimalOf}
 use Rattle.text.specs.Line.{line}
 use Rattle.text.proofs.Decimals.{decimal-length}
 use Rattle.text.proofs.Lists.{drop-next}
-use Rattle.align_output.specs.Output.{statusKey, fileKey, maxKey, slopeKey, interceptKey, alignedKey, statusText, floatLine, fileText, filesText, alignedText, acceptedText}
+use Rattle.rt_matrix.specs.declared.Alignment.{Alignment}
+use Rattle.align_output.specs.Output.{
+  statusKey,
+  fileKey,
+  maxKey,
+  slopeKey,
+  interceptKey,
+  alignedKey,
+  statusText,
+  floatLine,
+  fileText,
+  filesText,
+  alignedText,
+  acceptedText,
+}
 
 line-length : (key v : List ℕ) → length (line key v) ≡ length key + length v + 1
 line-length key v = simp length-append (omega arith)
@@ -29,65 +43,76 @@ status-length n h = decimal-line-length statusKey n h
 
 append₃ : (a b c d : List ℕ) → length (a ++ (b ++ (c ++ (d ++ [])))) ≡ length a + length b + length c + length d
 append₃ a b c d =
-    omega (arith, length-append a (b ++ (c ++ (d ++ []))), length-append b (c ++ (d ++ [])), length-append c (d ++ []), length-append d [])
-
-pub file-length : (i : ℕ) (max slope intercept : Float) → i < 2 ^ 32 → length (fileText i max slope intercept) ≤ 64
-unfolding fileText flatten
-file-length i max slope intercept h =
     omega (
       arith,
-      append₃ (line fileKey (decimalOf i)) (floatLine maxKey max) (floatLine slopeKey slope) (floatLine interceptKey intercept),
-      decimal-line-length fileKey i h,
-      float-length maxKey max,
-      float-length slopeKey slope,
-      float-length interceptKey intercept,
+      length-append a (b ++ (c ++ (d ++ []))),
+      length-append b (c ++ (d ++ [])),
+      length-append c (d ++ []),
+      length-append d [],
     )
 
-pub files-length : (i : ℕ) (m s n : List Float) → i + length m ≤ 2 ^ 32 → length (filesText i m s n) ≤ 64 * length m
-unfolding filesText
-files-length i [] s n h = omega arith
-files-length i (x ∷ m) s n h =
+pub file-length : (i : ℕ) (a : Alignment) → i < 2 ^ 32 → length (fileText i a) ≤ 64
+unfolding fileText flatten
+file-length i a h =
     omega (
       arith,
-      length-append (fileText i x (headD s nan) (headD n nan)) (filesText (i + 1) m (tail s) (tail n)),
-      file-length i x (headD s nan) (headD n nan) (omega arith),
-      files-length (i + 1) m (tail s) (tail n) (omega arith),
+      append₃ (line fileKey (decimalOf i)) (floatLine maxKey (a .«max_rt»)) (floatLine slopeKey (a .slope))
+          (floatLine interceptKey (a .intercept)),
+      decimal-line-length fileKey i h,
+      float-length maxKey (a .«max_rt»),
+      float-length slopeKey (a .slope),
+      float-length interceptKey (a .intercept),
+    )
+
+pub files-length : (i : ℕ) (records : List Alignment) → i + length records ≤ 2 ^ 32
+    → length (filesText i records) ≤ 64 * length records
+unfolding filesText
+files-length i [] h = omega arith
+files-length i (a ∷ records) h =
+    omega (
+      arith,
+      length-append (fileText i a) (filesText (i + 1) records),
+      file-length i a (omega arith),
+      files-length (i + 1) records (omega arith),
     )
 
 pub aligned-length : (ts : List Float) → length (alignedText ts) ≡ 17 * length ts
 unfolding alignedText flatten
 aligned-length [] = refl
-aligned-length (t ∷ ts) = omega (arith, length-append (floatLine alignedKey t) (alignedText ts), float-length alignedKey t, aligned-length ts)
-
-pub accepted-length : (m s n ts : List Float) → length m ≤ 2 ^ 32 → length (acceptedText m s n ts) ≤ 18 + 64 * length m + 17 * length ts
-unfolding acceptedText flatten
-accepted-length m s n ts h =
+aligned-length (t ∷ ts) =
     omega (
       arith,
-      length-append (statusText 0) (filesText 0 m s n ++ (alignedText ts ++ [])),
-      length-append (filesText 0 m s n) (alignedText ts ++ []),
+      length-append (floatLine alignedKey t) (alignedText ts),
+      float-length alignedKey t,
+      aligned-length ts,
+    )
+
+pub accepted-length : (records : List Alignment) (ts : List Float) → length records ≤ 2 ^ 32
+    → length (acceptedText records ts) ≤ 18 + 64 * length records + 17 * length ts
+unfolding acceptedText flatten
+accepted-length records ts h =
+    omega (
+      arith,
+      length-append (statusText 0) (filesText 0 records ++ (alignedText ts ++ [])),
+      length-append (filesText 0 records) (alignedText ts ++ []),
       length-append (alignedText ts) [],
       status-length 0 (omega arith),
-      files-length 0 m s n (omega arith),
+      files-length 0 records (omega arith),
       aligned-length ts,
     )
 
 -- ---- the first of what is left
-pub files-next : (m s n : List Float) (i : ℕ) → i < length m → length s ≡ length m → length n ≡ length m
-    → filesText i (drop i m) (drop i s) (drop i n)
-    ≡ fileText i (getD m i nan) (getD s i nan) (getD n i nan) ++ filesText (i + 1) (drop (i + 1) m) (drop (i + 1) s) (drop (i + 1) n)
-unfolding filesText headD
-files-next m s n i h e f =
-    ap (λ (t : List Float). filesText i t (drop i s) (drop i n)) (drop-next nan m i h)
-    ∙ ap₂ (λ (x y : List Float). fileText i (getD m i nan) (headD x nan) (headD y nan) ++ filesText (i + 1) (drop (i + 1) m) (tail x) (tail y))
-    (drop-next nan s i (omega arith))
-    (drop-next nan n i (omega arith))
-
-pub files-end : (m s n : List Float) (i : ℕ) → length m ≤ i → filesText i (drop i m) s n ≡ []
+pub files-next : (records : List Alignment) (d : Alignment) (i : ℕ) → i < length records
+    → filesText i (drop i records) ≡ fileText i (getD records i d) ++ filesText (i + 1) (drop (i + 1) records)
 unfolding filesText
-files-end m s n i h = ap (λ (t : List Float). filesText i t s n) (drop-of-length-le m h)
+files-next records d i h = ap (filesText i) (drop-next d records i h)
 
-pub aligned-next : (ts : List Float) (i : ℕ) → i < length ts → alignedText (drop i ts) ≡ floatLine alignedKey (getD ts i nan) ++ alignedText (drop (i + 1) ts)
+pub files-end : (records : List Alignment) (i : ℕ) → length records ≤ i → filesText i (drop i records) ≡ []
+unfolding filesText
+files-end records i h = ap (filesText i) (drop-of-length-le records h)
+
+pub aligned-next : (ts : List Float) (i : ℕ) → i < length ts
+    → alignedText (drop i ts) ≡ floatLine alignedKey (getD ts i nan) ++ alignedText (drop (i + 1) ts)
 unfolding alignedText flatten
 aligned-next ts i h = ap alignedText (drop-next nan ts i h)
 

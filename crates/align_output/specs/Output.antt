@@ -1,11 +1,13 @@
 -- The text of an answer of the align program. Definitions only.
 use Prim.Native.Nat.{ℕ, _+_}
-use mathlib.Core.List.{List, [], _∷_, _++_, map, flatten, headD, tail}
-use lib.Ieee.{Float, nan, binary32, toBits}
+use mathlib.Core.List.{List, [], _∷_, _++_, map, flatten}
+use lib.Ieee.{Float, binary32, toBits}
+use Rattle.status.specs.Status.{accepted}
 use Rattle.float.specs.Hex.{hexOf}
 use Rattle.text.specs.Ascii.{ascii}
 use Rattle.text.specs.Decimal.{decimalOf}
 use Rattle.text.specs.Line.{line}
+use Rattle.rt_matrix.specs.declared.Alignment.{Alignment}
 
 -- the keys of the output's lines
 abbrev pub statusKey : List ℕ
@@ -36,18 +38,22 @@ unfoldable pub floatLine : List ℕ → Float → List ℕ
 unfolding hexOf toBits
 floatLine key x = line key (hexOf 8 (toBits binary32 x))
 
--- the lines of a file: its number, longest time, slope and intercept
-unfoldable pub fileText : ℕ → Float → Float → Float → List ℕ
+-- the lines of a file: its number, and its record's longest time, slope and intercept
+unfoldable pub fileText : ℕ → Alignment → List ℕ
 unfolding flatten floatLine decimalOf
-fileText i max slope intercept =
-    flatten (line fileKey (decimalOf i) ∷ floatLine maxKey max ∷ floatLine slopeKey slope ∷ floatLine interceptKey intercept ∷ [])
+fileText i a =
+    flatten
+    (line fileKey (decimalOf i)
+    ∷ floatLine maxKey (a .«max_rt»)
+    ∷ floatLine slopeKey (a .slope)
+    ∷ floatLine interceptKey (a .intercept)
+    ∷ [])
 
--- the lines of the files from number i on, from three columns
-unfoldable pub filesText : ℕ → List Float → List Float → List Float → List ℕ
+-- the lines of the files from number i on, from their records
+unfoldable pub filesText : ℕ → List Alignment → List ℕ
 unfolding fileText
-filesText i [] slopes intercepts = []
-filesText i (max ∷ maxs) slopes intercepts =
-    fileText i max (headD slopes nan) (headD intercepts nan) ++ filesText (i + 1) maxs (tail slopes) (tail intercepts)
+filesText i [] = []
+filesText i (a ∷ records) = fileText i a ++ filesText (i + 1) records
 
 -- the lines of the rows
 unfoldable pub alignedText : List Float → List ℕ
@@ -55,6 +61,6 @@ unfolding flatten floatLine
 alignedText times = flatten (map (floatLine alignedKey) times)
 
 -- the text of an accepted input's answer: status, files, rows
-unfoldable pub acceptedText : (maxs slopes intercepts times : List Float) → List ℕ
+unfoldable pub acceptedText : (records : List Alignment) (times : List Float) → List ℕ
 unfolding flatten statusText filesText alignedText
-acceptedText maxs slopes intercepts times = flatten (statusText 0 ∷ filesText 0 maxs slopes intercepts ∷ alignedText times ∷ [])
+acceptedText records times = flatten (statusText accepted ∷ filesText 0 records ∷ alignedText times ∷ [])

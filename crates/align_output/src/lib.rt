@@ -3,7 +3,16 @@ ghost use mathlib.Core.Path.{_≡_};
 ghost use Prim.Native.Nat.{_+_, _*_, _≤_};
 ghost use lib.ListN.{length};
 ghost use Rattle.text.specs.Answer.{Wrote};
-ghost use Rattle.align_output.specs.Output.{statusText, floatLine, fileText, filesText, alignedText, acceptedText};
+ghost use Rattle.rt_matrix.specs.Columns.{EachOf, fileColumnsAt, fileColumnsOf, recordsOf};
+ghost use Rattle.align_output.specs.Output.{
+  statusText,
+  floatLine,
+  fileText,
+  filesText,
+  alignedText,
+  acceptedText,
+};
+use rt_matrix::Alignment;
 
 // Writes the line of a status over out from `at` on, and answers the place after it.
 pub fn write_status(out: &mut [u8], at: usize, status: u8) -> usize
@@ -22,25 +31,37 @@ fn write_float(out: &mut [u8], at: usize, key: &[u8], x: f32) -> usize
 }
 
 // Writes the lines of a file over out from `at` on, and answers the place after them.
-fn write_file(out: &mut [u8], at: usize, i: u32, max_rt: f32, slope: f32, intercept: f32) -> usize
+fn write_file(out: &mut [u8], at: usize, i: u32, a: Alignment) -> usize
     requires { ⌜ at + 64 ≤ length (now out) ⌝ }
-    ensures { λ r. ⌜ Wrote (now (out .entry)) at (fileText i «max_rt» slope intercept) r (now (out .exit)) ⌝ }
+    ensures { λ r. ⌜ Wrote (now (out .entry)) at (fileText i a) r (now (out .exit)) ⌝ }
 {
     let at1 = text::write_decimal_line(out, at, b"file=", i);
-    let at2 = write_float(out, at1, b"max=", max_rt);
-    let at3 = write_float(out, at2, b"slope=", slope);
-    write_float(out, at3, b"intercept=", intercept)
+    let at2 = write_float(out, at1, b"max=", a.max_rt);
+    let at3 = write_float(out, at2, b"slope=", a.slope);
+    write_float(out, at3, b"intercept=", a.intercept)
 }
 
 // Writes the lines of the files over out from `at` on, and answers the place after them.
 fn write_files(out: &mut [u8], at: usize, max_rt: &[f32], slope: &[f32], intercept: &[f32]) -> usize
-    requires { ⌜ (at + 64 * length (now «max_rt») ≤ length (now out)) × (length (now «max_rt») ≤ 4096) × (length (now slope) ≡ length (now «max_rt»)) × (length (now intercept) ≡ length (now «max_rt»)) ⌝ }
-    ensures { λ r. ⌜ Wrote (now (out .entry)) at (filesText 0 (now («max_rt» .entry)) (now (slope .entry)) (now (intercept .entry))) r (now (out .exit)) ⌝ }
+    requires { ⌜ (at + 64 * length (now «max_rt») ≤ length (now out))
+        × (length (now «max_rt») ≤ 4096)
+        × EachOf (length (now «max_rt»)) (fileColumnsAt «max_rt» slope intercept) ⌝ }
+    ensures { λ r. ⌜ Wrote
+        (now (out .entry))
+        at
+        (filesText 0 (recordsOf (fileColumnsOf «max_rt» slope intercept .entry)))
+        r
+        (now (out .exit)) ⌝ }
 {
     let mut next = at;
     let mut i = 0usize;
     while i < max_rt.len() {
-        next = write_file(out, next, i as u32, max_rt[i], slope[i], intercept[i]);
+        let a = Alignment {
+            max_rt: max_rt[i],
+            slope: slope[i],
+            intercept: intercept[i],
+        };
+        next = write_file(out, next, i as u32, a);
         i += 1;
     }
     next
@@ -68,10 +89,17 @@ pub fn write_accepted(
     intercept: &[f32],
     aligned: &[f32],
 ) -> usize
-    requires { ⌜ (18 + 64 * length (now «max_rt») + 17 * length (now aligned) ≤ length (now out)) × (length (now «max_rt») ≤ 4096) × (length (now slope) ≡ length (now «max_rt»)) × (length (now intercept) ≡ length (now «max_rt»)) ⌝ }
-    ensures { λ r. ⌜ Wrote (now (out .entry)) 0 (acceptedText (now («max_rt» .entry)) (now (slope .entry)) (now (intercept .entry)) (now (aligned .entry))) r (now (out .exit)) ⌝ }
+    requires { ⌜ (18 + 64 * length (now «max_rt») + 17 * length (now aligned) ≤ length (now out))
+        × (length (now «max_rt») ≤ 4096)
+        × EachOf (length (now «max_rt»)) (fileColumnsAt «max_rt» slope intercept) ⌝ }
+    ensures { λ r. ⌜ Wrote
+        (now (out .entry))
+        0
+        (acceptedText (recordsOf (fileColumnsOf «max_rt» slope intercept .entry)) (now (aligned .entry)))
+        r
+        (now (out .exit)) ⌝ }
 {
-    let at1 = write_status(out, 0, 0);
+    let at1 = write_status(out, 0, status::ACCEPTED);
     let at2 = write_files(out, at1, max_rt, slope, intercept);
     write_aligned(out, at2, aligned)
 }

@@ -21,7 +21,21 @@ use Rattle.align_input.specs.Input.{Input}
 use Rattle.align_input.specs.Parse.{parse}
 use Rattle.align_input.specs.Columns.{inputRead, qOf, rtOf, Columns, columns, stored}
 use Rattle.align_output.specs.Output.{statusText}
-use Rattle.align_text.specs.AlignText.{maxFiles, maxPeptides, maxRows, withinLimits, columnsOf, columnsText, inputText, answerTo, alignText, columnsStatus, inputStatus, statusTo, textStatus}
+use Rattle.align_text.specs.AlignText.{
+  maxFiles,
+  maxPeptides,
+  maxRows,
+  withinLimits,
+  columnsOf,
+  columnsText,
+  inputText,
+  answerTo,
+  alignText,
+  columnsStatus,
+  inputStatus,
+  statusTo,
+  textStatus,
+}
 use Rattle.align_text.specs.Buffer.{Stands}
 use Rattle.align_text.specs.declared.Buffered.{Buffered}
 

@@ -1,6 +1,7 @@
 -- The contract of `align_text`, by whether the text is accepted and whether its answer fits; and what a caller has of
 -- it: what was written fits, and what a refused call wrote is the line of its number.
-use mathlib.Core.Path.{_≡_, refl, sym, ap, _∙_}
+use mathlib.Core.Option.{some}
+use mathlib.Core.Path.{_≡_, refl, sym, ap, ap₂, _∙_}
 use mathlib.Core.Bool.{Bool, true, false, cond}
 use mathlib.Core.List.{List, [], _∷_, _++_}
 use Prim.Native.Nat.{ℕ, _+_, _≤_, _<_}
@@ -14,25 +15,37 @@ use Rattle.status.specs.Status.{accepted, tooShort, firstFailing}
 use Rattle.align_output.specs.Output.{statusText}
 use Rattle.align_text.specs.declared.TextAnswer.{TextAnswer}
 use Rattle.align_text.specs.declared.TextAnswer.the-variants.{Accepted, Refused}
-use Rattle.align_text.specs.AlignText.{alignText, textStatus, fits, callStatus, writtenTo, answerOf, numberOf, writtenIn, Answered}
+use Rattle.status.specs.Told.{Told}
+use Rattle.align_text.specs.AlignText.{
+  alignText,
+  textStatus,
+  fits,
+  callStatus,
+  writtenTo,
+  answerOf,
+  writtenIn,
+  toldBy,
+  Answered,
+}
 use Rattle.align_text.proofs.Statuses.{refused-text}
 
--- the number and the value of an answer are those that it was made of
-number-of : (s n : ℕ) → numberOf (answerOf s n) ≡ s
-unfolding numberOf answerOf
-number-of s n = go (eqb s accepted) refl
+-- a number and a value, as an answer tells them
+abbrev telling : (s n : ℕ) → Told ℕ
+telling s n = record { status = s; values = some n }
+
+-- an answer tells the number and the value that it was made of
+told-of : (s n : ℕ) → toldBy (answerOf s n) ≡ telling s n
+unfolding answerOf
+told-of s n = go (eqb s accepted) refl
   where
-    go : (b : Bool) → eqb s accepted ≡ b → numberOf (cond b (Accepted n) (Refused s n)) ≡ s
-    go true e = sym (eqb-true s accepted e)
+    go : (b : Bool) → eqb s accepted ≡ b → toldBy (cond b (Accepted n) (Refused s n)) ≡ telling s n
+    go true e = ap (λ (x : ℕ). telling x n) (sym (eqb-true s accepted e))
     go false e = refl
 
-written-of : (s n : ℕ) → writtenIn (answerOf s n) ≡ n
-unfolding answerOf
-written-of s n = go (eqb s accepted)
-  where
-    go : (b : Bool) → writtenIn (cond b (Accepted n) (Refused s n)) ≡ n
-    go true = refl
-    go false = refl
+-- and what it says was written is that value
+written-in : (r : TextAnswer) (s n : ℕ) → toldBy r ≡ telling s n → writtenIn r ≡ n
+written-in (Accepted m) s n e = let v : some m ≡ some n = ap (λ (t : Told ℕ). t .values) e in cc
+written-in (Refused q m) s n e = let v : some m ≡ some n = ap (λ (t : Told ℕ). t .values) e in cc
 
 accepted-answer : (s n : ℕ) → s ≡ accepted → Accepted n ≡ answerOf s n
 unfolding answerOf
@@ -63,8 +76,7 @@ module _ (t before : List ℕ) where
   of-parts s n r after e f h o =
       record {
         answer = h ∙ ap (λ (x : ℕ). answerOf x n) (sym e) ∙ ap (answerOf (callStatus t before)) (sym f);
-        number = ap numberOf h ∙ number-of s n ∙ sym e;
-        values = ap writtenIn h ∙ written-of s n ∙ sym f;
+        told = ap toldBy h ∙ told-of s n ∙ ap₂ telling (sym e) (sym f);
         output = o;
       }
 
@@ -122,7 +134,7 @@ module _ (t before : List ℕ) where
 
 -- what is said to be written fits
 pub written-fits : (t before : List ℕ) (r : TextAnswer) (after : List ℕ) → Answered t before r after → writtenIn r ≤ length before
-written-fits t before r after w = go (fits (alignText t) before) refl (w .values)
+written-fits t before r after w = go (fits (alignText t) before) refl (written-in r _ _ (w .told))
   where
     go : (b : Bool) → fits (alignText t) before ≡ b → writtenIn r ≡ cond b (length (alignText t)) 0 → writtenIn r ≤ length before
     go true e g = omega (arith, g, leb-true (length (alignText t)) (length before) e)
@@ -138,8 +150,7 @@ refused-number s n m k h = go (eqb m accepted) refl h
 
 -- what a refused call wrote is the line of the number that it answers
 pub refused-line : (t before after : List ℕ) (s n : ℕ) → Answered t before (Refused s n) after → 0 < n → take n after ≡ statusText s
-unfolding numberOf
-refused-line t before after s n w h = go (fits (alignText t) before) refl (w .values)
+refused-line t before after s n w h = go (fits (alignText t) before) refl (written-in (Refused s n) _ _ (w .told))
   where
     go : (b : Bool) → fits (alignText t) before ≡ b → n ≡ cond b (length (alignText t)) 0 → take n after ≡ statusText s
     go false e v = absurd (omega (arith, v, h))
@@ -149,4 +160,4 @@ refused-line t before after s n w h = go (fits (alignText t) before) refl (w .va
         ap (take n) (w .output ∙ ap (λ (b : Bool). cond b (overwritten (alignText t) before) before) e)
         ∙ take-at (alignText t) _ n (sym v)
         ∙ refused-text t (ap (λ (m : ℕ). eqb m accepted) (sym f) ∙ r)
-        ∙ ap statusText (sym (w .number ∙ f))
+        ∙ ap statusText (sym (ap (λ (x : Told ℕ). x .status) (w .told) ∙ f))

@@ -8,7 +8,16 @@ use Rattle.float.specs.Convert.{narrowed, ceiling}
 use Rattle.float.specs.Value.{isFinite, isNormal, minimum}
 use Rattle.float.specs.Hex.{hexDigit, hexOf, digitValue, allHex, hexValue, readHex}
 use Rattle.text.specs.Ascii.{ascii}
-use Rattle.text.specs.Decimal.{decimalOnto, decimalOf, isDigit, readFrom, readDecimal, negative, nonNegative, readSigned}
+use Rattle.text.specs.Decimal.{
+  decimalOnto,
+  decimalOf,
+  isDigit,
+  readFrom,
+  readDecimal,
+  negative,
+  nonNegative,
+  readSigned,
+}
 use Rattle.text.specs.Line.{lineOf, startsWith, keyed, firstLine, readHexDigits, decimalLine, signedLine, hexLine}
 use Rattle.status.specs.Checks.{every}
 use Rattle.feature.specs.Feature.{trains, mask, kept}
@@ -19,7 +28,18 @@ use Rattle.retention_alignment.specs.Observation.{observations, maxRt, maxRts, 
 use Rattle.retention_alignment.specs.Alignments.{alignments, onLine, aligned}
 use Rattle.align_input.specs.Parse.{rowRead, rowsFrom, rowsOf, headRead, parse}
 use Rattle.align_output.specs.Output.{statusText, floatLine, fileText, filesText, alignedText, acceptedText}
-use Rattle.align_text.specs.AlignText.{columnsOf, alignmentText, columnsText, inputText, alignText, inputStatus, textStatus, callStatus, writtenTo, answerOf}
+use Rattle.align_text.specs.AlignText.{
+  columnsOf,
+  alignmentText,
+  columnsText,
+  inputText,
+  alignText,
+  inputStatus,
+  textStatus,
+  callStatus,
+  writtenTo,
+  answerOf,
+}
 use Rattle.align_text.specs.declared.TextAnswer.the-variants.{Refused}
 
 -- lines, each closed by LF
@@ -35,7 +55,8 @@ one files peptides file peptide rt = closed (files ∷ peptides ∷ file ∷ pep
 abbrev answer : (max slope intercept aligned : String) → List ℕ
 answer max slope intercept aligned = closed ("status=0" ∷ "file=0" ∷ max ∷ slope ∷ intercept ∷ aligned ∷ [])
 
--- a text and its answer: the program's row; the times 9.2, -3.0 and 5E9; no rows; and the table's examples of 2, 4, 5 and 10
+-- a text and its answer: the program's row; the times 9.2, -3.0 and 5E9; no rows; and the table's examples of 2, 4, 5
+-- and 10
 abbrev tests : List (List ℕ × List ℕ)
 tests =
     (one "files=1" "peptides=1" "file=0" "peptide=0" "rt=41200000", answer "max=41200000" "slope=00000000" "intercept=3F800000" "aligned=3F800000")

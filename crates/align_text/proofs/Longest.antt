@@ -10,7 +10,6 @@ use borrow.Author.Tests.{le-leb}
 use Rattle.matrix.specs.Lists.{overwritten}
 use Rattle.status.specs.Checks.{allBelow}
 use Rattle.status.specs.Status.{badFile, badPeptide}
-use Rattle.rt_matrix.specs.declared.Alignment.{Alignment}
 use Rattle.retention_alignment.specs.Alignments.{aligned}
 use Rattle.retention_alignment.specs.Call as Call
 use Rattle.retention_alignment.specs.Call.{recordsFor, rows}
@@ -22,7 +21,20 @@ use Rattle.align_input.specs.Columns.{rtOf}
 use Rattle.align_output.specs.Output.{statusText}
 use Rattle.align_output.proofs.Lengths.{status-length, accepted-length}
 use Rattle.align_text.specs.declared.TextAnswer.{TextAnswer}
-use Rattle.align_text.specs.AlignText.{withinLimits, columnsOf, alignmentText, columnsText, inputText, answerTo, alignText, textStatus, fits, writtenTo, answerOf, Answered}
+use Rattle.align_text.specs.AlignText.{
+  withinLimits,
+  columnsOf,
+  alignmentText,
+  columnsText,
+  inputText,
+  answerTo,
+  alignText,
+  textStatus,
+  fits,
+  writtenTo,
+  answerOf,
+  Answered,
+}
 use Rattle.align_text.proofs.Aligning.{records-long}
 use Rattle.align_text.proofs.Answers.{within}
 use Rattle.align_text.proofs.Contract.{fitting}
@@ -42,11 +54,10 @@ module _ (i : Call.Input) (files : i .files ≤ 8) (count : length (rows i) ≤ 
   alignment-short : length (alignmentText i) ≤ longest
   unfolding alignmentText
   alignment-short =
-      let m = map (λ (a : Alignment). a .«max_rt») (recordsFor i) in
       let t = map (aligned (recordsFor i)) (rows i) in
-      let e : length m ≡ i .files = length-map (recordsFor i) (λ a. a .«max_rt») ∙ records-long i in
+      let e = records-long i in
       let f : length t ≡ length (rows i) = length-map (rows i) (aligned (recordsFor i)) in
-      omega (arith, accepted-length m (map (λ (a : Alignment). a .slope) (recordsFor i)) (map (λ (a : Alignment). a .intercept) (recordsFor i)) t (omega (arith, e)), e, f)
+      omega (arith, accepted-length (recordsFor i) t (omega (arith, e)), e, f)
 
   columns-short : length (columnsText i) ≤ longest
   unfolding columnsText

@@ -15,7 +15,20 @@ use Rattle.retention_alignment.specs.Call as Call
 use Rattle.align_input.specs.Input.{Input}
 use Rattle.align_input.specs.Parse.{parse}
 use Rattle.align_output.specs.Output.{statusText, acceptedText}
-use Rattle.align_text.specs.AlignText.{withinLimits, columnsOf, alignmentText, columnsText, inputText, answerTo, alignText, columnChecks, columnsStatus, inputStatus, statusTo, textStatus}
+use Rattle.align_text.specs.AlignText.{
+  withinLimits,
+  columnsOf,
+  alignmentText,
+  columnsText,
+  inputText,
+  answerTo,
+  alignText,
+  columnChecks,
+  columnsStatus,
+  inputStatus,
+  statusTo,
+  textStatus,
+}
 
 -- the answer with a number: its line, or this text for 0
 abbrev pub byStatus : ℕ → List ℕ → List ℕ

@@ -9,7 +9,7 @@ use lib.ListN.{length}
 use Rattle.matrix.specs.Lists.{overwritten}
 use Rattle.status.specs.Checks.{allBelow}
 use Rattle.status.specs.Status.{accepted, malformed, pastLimit, tooShort, badFile, badPeptide, firstFailing}
-use Rattle.rt_matrix.specs.declared.Alignment.{Alignment}
+use Rattle.status.specs.Told.{Told, gives, ifAccepted}
 use Rattle.retention_alignment.specs.Alignments.{aligned}
 use Rattle.retention_alignment.specs.Call as Call
 use Rattle.retention_alignment.specs.Call.{recordsFor, rows}
@@ -50,12 +50,7 @@ columnsOf d =
 -- the text of the alignment of columns whose numbers are in range
 unfoldable pub alignmentText : Call.Input → List ℕ
 unfolding acceptedText
-alignmentText i =
-    acceptedText
-    (map (λ (a : Alignment). a .«max_rt») (recordsFor i))
-    (map (λ (a : Alignment). a .slope) (recordsFor i))
-    (map (λ (a : Alignment). a .intercept) (recordsFor i))
-    (map (aligned (recordsFor i)) (rows i))
+alignmentText i = acceptedText (recordsFor i) (map (aligned (recordsFor i)) (rows i))
 
 -- the text of the answer to columns: each check over all of them before the next
 unfoldable pub columnsText : Call.Input → List ℕ
@@ -68,7 +63,8 @@ columnsText i =
 -- the text of the answer to an input
 unfoldable pub inputText : Input → List ℕ
 unfolding columnsText columnsOf statusText
-inputText d = cond (withinLimits (d .files) (d .peptides) (length (d .rows))) (columnsText (columnsOf d)) (statusText pastLimit)
+inputText d =
+    cond (withinLimits (d .files) (d .peptides) (length (d .rows))) (columnsText (columnsOf d)) (statusText pastLimit)
 
 abbrev pub answerTo : Option Input → List ℕ
 answerTo none = statusText malformed
@@ -112,7 +108,8 @@ fits text output = leb (length text) (length output)
 -- the number of a call: the text's, and behind it 3 for an answer that does not fit
 unfoldable pub callStatus : (input output : List ℕ) → ℕ
 callStatus input output =
-    firstFailing ((textStatus input, eqb (textStatus input) accepted) ∷ (tooShort, fits (alignText input) output) ∷ [])
+    let status = textStatus input in
+    firstFailing ((status, eqb status accepted) ∷ (tooShort, fits (alignText input) output) ∷ [])
 
 -- how many bytes a call writes
 abbrev pub writtenTo : (input output : List ℕ) → ℕ
@@ -120,22 +117,21 @@ writtenTo input output = cond (fits (alignText input) output) (length (alignText
 
 -- the answer with a number, and so many bytes written
 unfoldable pub answerOf : (status written : ℕ) → TextAnswer
-answerOf s n = cond (eqb s accepted) (Accepted n) (Refused s n)
+answerOf s n = ifAccepted s (Accepted n) (Refused s n)
 
--- the paper's number of an answer
-unfoldable pub numberOf : TextAnswer → ℕ
-numberOf (Accepted n) = accepted
-numberOf (Refused s n) = s
-
--- the value of an answer: how many bytes were written
+-- how many bytes an answer says were written
 abbrev pub writtenIn : TextAnswer → ℕ
 writtenIn (Accepted n) = n
 writtenIn (Refused s n) = n
 
--- The contract: the answer, its number, its value, and the whole slice after the call. An answer that does not fit
--- leaves the slice as it was.
+-- what every case of an answer tells: a refused one too has a value, how many bytes were written
+abbrev pub toldBy : TextAnswer → Told ℕ
+toldBy (Accepted n) = gives n
+toldBy (Refused s n) = record { status = s; values = some n }
+
+-- The contract: the answer, what it tells, and the whole slice after the call. An answer that does not fit leaves the
+-- slice as it was.
 pub record Answered (input before : List ℕ) (r : TextAnswer) (after : List ℕ) : Type 0 where
   pub answer : r ≡ answerOf (callStatus input before) (writtenTo input before)
-  pub number : numberOf r ≡ callStatus input before
-  pub values : writtenIn r ≡ writtenTo input before
+  pub told : toldBy r ≡ record { status = callStatus input before; values = some (writtenTo input before) }
   pub output : after ≡ cond (fits (alignText input) before) (overwritten (alignText input) before) before

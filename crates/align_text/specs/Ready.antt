@@ -1,4 +1,5 @@
--- What the part of the program that aligns asks: columns of one length within the program's limits, and room for the answer. Definitions only.
+-- What the part of the program that aligns asks: columns of one length within the program's limits, and room for the
+-- answer. Definitions only.
 use Prim.Native.Nat.{ℕ, _≤_}
 use mathlib.Core.Path.{_≡_}
 use mathlib.Core.List.{List}

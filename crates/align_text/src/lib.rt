@@ -2,6 +2,7 @@
 ghost use mathlib.Core.Path.{_≡_};
 ghost use Prim.Native.Nat.{_≤_};
 ghost use lib.ListN.{length};
+ghost use Rattle.retention_alignment.specs.Call.{inputAt, inputOf};
 ghost use Rattle.align_output.specs.Output.{statusText};
 ghost use Rattle.align_text.specs.AlignText.{withinLimits, writtenIn, Answered};
 ghost use Rattle.align_text.specs.Buffer.{Stands, ColumnsStand, TextStands};
@@ -85,27 +86,9 @@ fn answer_rows(
     peptides: usize,
     out: &mut [u8],
 ) -> Buffered
-    requires { ⌜ Ready
-        (record {
-          file = now file;
-          peptide = now peptide;
-          label = now label;
-          q = now q;
-          rt = now rt;
-          files = files;
-          peptides = peptides;
-        })
-        (now out) ⌝ }
+    requires { ⌜ Ready (inputAt file peptide label q rt files peptides) (now out) ⌝ }
     ensures { λ r. ⌜ ColumnsStand
-        (record {
-          file = now (file .entry);
-          peptide = now (peptide .entry);
-          label = now (label .entry);
-          q = now (q .entry);
-          rt = now (rt .entry);
-          files = files;
-          peptides = peptides;
-        })
+        (inputOf file peptide label q rt files peptides)
         (now (out .entry))
         r
         (now (out .exit)) ⌝ }

@@ -1,5 +1,5 @@
-// A walker down a column of a matrix (Rust's Iter over Col), which holds the slice that the matrix lies in: thin functions over the cursor
-// `matrix::Col`.
+// A walker down a column of a matrix (Rust's Iter over Col), which holds the slice that the matrix lies in: thin
+// functions over the cursor `matrix::Col`.
 ghost use mathlib.Core.Path.{_≡_};
 ghost use Rattle.matrix.specs.Cells.{stepOf};
 use matrix::Col;
@@ -29,7 +29,11 @@ pub fn walker<'a>(cells: &'a [f64], rows: u32, cols: u32, row: u32, col: u32) ->
 
 // The cell that the walker stands at, with the cursor one row further down, or the column's end.
 pub fn next<'a>(c: Column<'a>) -> ColStep
-    ensures { λ s. ⌜ s ≡ stepOf (c .entry .rows) (c .entry .cols) (record { row = c .entry .row; col = c .entry .col }) (now (c .entry .cells)) ⌝ }
+    ensures { λ s. ⌜ s ≡ stepOf
+        (c .entry .rows)
+        (c .entry .cols)
+        (record { row = c .entry .row; col = c .entry .col })
+        (now (c .entry .cells)) ⌝ }
 {
     Col::next(
         Col {

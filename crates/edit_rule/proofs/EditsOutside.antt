@@ -3,17 +3,16 @@
 -- wrote what the definition gives from file count, table, longest times and training rows (by the contract of `run`),
 -- and these are the same at both ends.
 use mathlib.Core.Path.{_≡_, refl, sym, ap, _∙_}
-use mathlib.Core.Bool.{true, cond}
+use mathlib.Core.Bool.{true}
 use mathlib.Core.List.{List, [], _∷_, map}
 use mathlib.Core.Option.{Option, none, some}
 use Prim.Native.Nat.{ℕ, zero, suc, _<_}
 use native.Mathlib.Nat.{le-of-suc-le-suc, not-suc-le-zero}
-use lib.Dec.{eqb}
 use lib.Ieee.{Float, nan}
 use lib.ListN.{length, getD, take, drop, length-map, List·getD-append}
 use lib.Seq.{take-at}
 use borrow.Author.Tests.{not-true}
-use Rattle.status.specs.Status.{accepted}
+use Rattle.status.specs.Told.{ifAccepted}
 use Rattle.matrix.specs.Lists.{overwritten}
 use Rattle.matrix.proofs.Lists.{length-tabulate}
 use Rattle.feature.specs.Feature.{Row, rowTrains, outside, training}
@@ -23,18 +22,20 @@ use Rattle.peptide.specs.Table.{Table}
 use Rattle.embedding.specs.Design.{orderOf}
 use Rattle.embedding.specs.declared.Model.the-variants.{Retention, Mobility}
 use Rattle.rt_matrix.specs.Line.{lines}
-use Rattle.rt_matrix.specs.declared.Alignment.{Alignment}
+use Rattle.rt_matrix.specs.Columns.{columnsOf, firstOf}
+use Rattle.rt_matrix.proofs.RecordColumns.{first-written}
 use Rattle.retention_alignment.specs.Observation.{maxRts}
 use Rattle.retention_alignment.specs.Alignments.{alignments}
+use Rattle.models.specs.Call.{ModelOutputs}
 use Rattle.models.specs.Prediction.{isSolved}
 use Rattle.run.specs.Fitted.{Part, ofRetention, ofMobility, modelOf, fitOfPart, resultBy, resultOf}
 use Rattle.run.specs.Fitted.{Fitted, Predicted, RowOutcome, longest, fileRecords, fitted, outcome}
-use Rattle.run.specs.Call.{ModelSlices, Slices, rows, answerOf, outcomes, predictedOf, filledModel, filled, slicesAfter}
+use Rattle.run.specs.Call.{Slices, rows, answerOf, outcomes, predictedOf, filledModel, filled, slicesAfter}
 use Rattle.run.specs.declared.RunAnswer.the-variants.{Ran}
 use Rattle.run.proofs.Outcomes.{result-solved, results-solved}
 use Rattle.edit_rule.specs.Ends.{End, EditedOutside, SameFitted, SameRow, ByDefinition, Unmoved, definition}
-use Rattle.edit_rule.specs.Ends.{outputsOf, fits, writtenFor, outcomeAt}
-use Rattle.edit_rule.proofs.Width.{length-beta}
+use Rattle.edit_rule.specs.Ends.{writtenBy, fits, writtenFor, outcomeAt}
+use Rattle.edit_rule.proofs.Width.{length-coefficients}
 
 -- ---- cells of a column, and cells that were written over
 
@@ -64,7 +65,7 @@ module _ (e : End) where
   unfolding slicesAfter
   after-is =
       e .contract .slices
-      ∙ ap (λ (s : ℕ). cond (eqb s accepted) (filled (e .input) (e .before)) (e .before)) (e .unrefused)
+      ∙ ap (λ (s : ℕ). ifAccepted s (filled (e .input) (e .before)) (e .before)) (e .unrefused)
 
   answer-is : e .answer ≡ Ran (definition e .retention .outcome) (definition e .mobility .outcome)
   unfolding answerOf
@@ -75,36 +76,40 @@ module _ (e : End) where
   unfolding fitted fileRecords alignments lines maxRts
   count = length-tabulate _ _ ∙ length-tabulate (e .input .files) _
 
-  column-is : (f : Alignment → Float) (whole old : List Float)
-      → whole ≡ overwritten (map f (definition e .records)) old
-      → take (e .input .files) whole ≡ map f (definition e .records)
-  column-is f whole old w =
-      front whole (map f (definition e .records)) old w (e .input .files) (length-map (definition e .records) f ∙ count)
+  records-are : firstOf (e .input .files) (e .after .records) ≡ columnsOf (definition e .records)
+  unfolding filled
+  records-are =
+      ap (λ (s : Slices). firstOf (e .input .files) (s .records)) after-is
+      ∙ first-written (e .input .files) (e .before .records) (definition e .records) count
 
   -- the model fits, by the answer and by the definition
   solved-is : (part : Part) → fits part (e .answer) ≡ true → isSolved (fitOfPart part (definition e) .outcome) ≡ true
   solved-is ofRetention h = sym (ap (fits ofRetention) answer-is) ∙ h
   solved-is ofMobility h = sym (ap (fits ofMobility) answer-is) ∙ h
 
-  outputs-are : (part : Part) → outputsOf part (e .after) ≡ filledModel part (e .input) (outputsOf part (e .before))
+  outputs-are : (part : Part) → writtenBy part (e .after) ≡ filledModel part (e .input) (writtenBy part (e .before))
   unfolding filled
   outputs-are ofRetention = ap (λ (s : Slices). s .retention) after-is
   outputs-are ofMobility = ap (λ (s : Slices). s .mobility) after-is
 
   -- a coefficient for each column
-  beta-count : (part : Part) → isSolved (fitOfPart part (definition e) .outcome) ≡ true
-      → length (fitOfPart part (definition e) .beta) ≡ orderOf (modelOf part)
+  coefficients-count : (part : Part) → isSolved (fitOfPart part (definition e) .outcome) ≡ true
+      → length (fitOfPart part (definition e) .coefficients) ≡ orderOf (modelOf part)
   unfolding fitted
-  beta-count ofRetention h = length-beta (orderOf Retention) _ h
-  beta-count ofMobility h = length-beta (orderOf Mobility) _ h
+  coefficients-count ofRetention h = length-coefficients (orderOf Retention) _ h
+  coefficients-count ofMobility h = length-coefficients (orderOf Mobility) _ h
 
-  beta-is : (part : Part) → fits part (e .answer) ≡ true
-      → take (orderOf (modelOf part)) (outputsOf part (e .after) .beta) ≡ fitOfPart part (definition e) .beta
-  beta-is part h =
-      front (outputsOf part (e .after) .beta) (fitOfPart part (definition e) .beta) (outputsOf part (e .before) .beta)
-      (ap (λ (s : ModelSlices). s .beta) (outputs-are part))
+  coefficients-are : (part : Part) → fits part (e .answer) ≡ true
+      → take (orderOf (modelOf part)) (writtenBy part (e .after) .coefficients)
+      ≡ fitOfPart part (definition e) .coefficients
+  coefficients-are part h =
+      front
+      (writtenBy part (e .after) .coefficients)
+      (fitOfPart part (definition e) .coefficients)
+      (writtenBy part (e .before) .coefficients)
+      (ap (λ (s : ModelOutputs). s .coefficients) (outputs-are part))
       (orderOf (modelOf part))
-      (beta-count part (solved-is part h))
+      (coefficients-count part (solved-is part h))
 
   -- ---- a row's results
 
@@ -139,32 +144,23 @@ module _ (e : End) where
 
       predicted-at : some (writtenFor part e k) ≡ resultOf part (outcomeAt e k)
       predicted-at =
-          let s = outputsOf part (e .before) in
-          let t = outputsOf part (e .after) in
+          let s = writtenBy part (e .before) in
+          let t = writtenBy part (e .after) in
           let p =
           field-at (λ (x : Predicted). x .prediction) (t .predicted) (s .predicted)
-          (ap (λ (x : ModelSlices). x .predicted) (outputs-are part)) in
+          (ap (λ (x : ModelOutputs). x .predicted) (outputs-are part)) in
           let x =
           field-at (λ (x : Predicted). x .error) (t .error) (s .error)
-          (ap (λ (x : ModelSlices). x .error) (outputs-are part)) in
+          (ap (λ (x : ModelOutputs). x .error) (outputs-are part)) in
           rw (p, x)
           (sym (result-solved (e .input .table) (definition e) part (rowAt (rows (e .input)) k) (solved-is part h)))
 
   by-definition : ByDefinition e
-  unfolding filled
   by-definition =
-      let t = e .after in
-      let s = e .before in
       record {
-        maxRt =
-            column-is (λ (r : Alignment). r .«max_rt») (t .maxRt) (s .maxRt)
-            (ap (λ (x : Slices). x .maxRt) after-is);
-        slope = column-is (λ (r : Alignment). r .slope) (t .slope) (s .slope) (ap (λ (x : Slices). x .slope) after-is);
-        intercept =
-            column-is (λ (r : Alignment). r .intercept) (t .intercept) (s .intercept)
-            (ap (λ (x : Slices). x .intercept) after-is);
+        records = records-are;
         answer = answer-is;
-        beta = beta-is;
+        coefficients = coefficients-are;
         aligned = aligned-at;
         predicted = λ part k h l. predicted-at k l part h;
       }
@@ -199,32 +195,21 @@ module _ (a b : End) (s : EditedOutside a b) where
   fits-too : (part : Part) → fits part (a .answer) ≡ true → fits part (b .answer) ≡ true
   fits-too part h = ap (fits part) same-answer ∙ h
 
-  same-column : (f : Alignment → Float) (x y : List Float)
-      → take (b .input .files) x ≡ map f (definition b .records)
-      → take (a .input .files) y ≡ map f (definition a .records)
-      → take (a .input .files) x ≡ take (a .input .files) y
-  same-column f x y p q =
-      ap (λ (n : ℕ). take n x) (sym (s .files))
-      ∙ p
-      ∙ ap (λ (d : Fitted). map f (d .records)) same-definition
-      ∙ sym q
-
   same-fitted : SameFitted a b
   same-fitted =
       let x = by-definition a in
       let y = by-definition b in
-      let u = a .after in
-      let v = b .after in
       record {
-        maxRt = same-column (λ (r : Alignment). r .«max_rt») (v .maxRt) (u .maxRt) (y .maxRt) (x .maxRt);
-        slope = same-column (λ (r : Alignment). r .slope) (v .slope) (u .slope) (y .slope) (x .slope);
-        intercept =
-            same-column (λ (r : Alignment). r .intercept) (v .intercept) (u .intercept) (y .intercept) (x .intercept);
+        records =
+            ap (λ (n : ℕ). firstOf n (b .after .records)) (sym (s .files))
+            ∙ y .records
+            ∙ ap (λ (d : Fitted). columnsOf (d .records)) same-definition
+            ∙ sym (x .records);
         answer = same-answer;
-        beta = λ part h.
-            y .beta part (fits-too part h)
-            ∙ ap (λ (d : Fitted). fitOfPart part d .beta) same-definition
-            ∙ sym (x .beta part h);
+        coefficients = λ part h.
+            y .coefficients part (fits-too part h)
+            ∙ ap (λ (d : Fitted). fitOfPart part d .coefficients) same-definition
+            ∙ sym (x .coefficients part h);
       }
 
   -- the row k of a is the row l of b

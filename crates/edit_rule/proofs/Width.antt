@@ -14,12 +14,29 @@ use Rattle.float.specs.Number.{zero64}
 use Rattle.matrix.proofs.Laws.{Wide, wide-map, wide-swapped, length-flat}
 use Rattle.matrix.proofs.Lists.{length-tabulate, length-zipped}
 use Rattle.elimination.specs.Rows.{rowOf, indexed}
-use Rattle.elimination.specs.Elimination.{cell, dividedBy, ridged, fillZero, pivotRow, cleared, clearBelow, eliminated}
-use Rattle.elimination.specs.Elimination.{echelonFrom, leading, divided, reduce, lessMultiple, clearAbove, backfillFrom}
+use Rattle.elimination.specs.Elimination.{
+  cell,
+  dividedBy,
+  ridged,
+  fillZero,
+  pivotRow,
+  cleared,
+  clearBelow,
+  columnEliminated,
+}
+use Rattle.elimination.specs.Elimination.{
+  echelonFrom,
+  leading,
+  divided,
+  reduce,
+  lessMultiple,
+  clearAbove,
+  backfillFrom,
+}
 use Rattle.elimination.specs.Elimination.{eliminate, leftSolved}
 use Rattle.elimination.specs.Ridge.{Solution, solved, unsolved, firstSolved, rightSide, ridges}
 use Rattle.elimination.proofs.Elimination.{pivot-within}
-use Rattle.regression.specs.Regression.{Sample, fitBy, fitOf, normal}
+use Rattle.regression.specs.Regression.{Sample, fitFrom, fitOf, normal}
 use Rattle.regression.proofs.Laws.{wide-normal}
 use Rattle.models.specs.Prediction.{isSolved}
 
@@ -124,8 +141,8 @@ length-cleared k w pivot r h e =
     length-append (take k r) _ ∙ rw (length-take-le k r (omega arith), length-zipped, length-drop) (omega arith)
 
 sized-eliminated : (n w h k : ℕ) (rows : List (List Float)) → Sized n w rows → h < n → k < w
-    → Sized n w (eliminated h k rows)
-unfolding eliminated clearBelow
+    → Sized n w (columnEliminated h k rows)
+unfolding columnEliminated clearBelow
 sized-eliminated n w h k rows s l m =
     let e = s .0 in
     let p : pivotRow h k rows < n = rw e at (pivot-within h k rows (omega arith) (omega arith)) in
@@ -140,9 +157,9 @@ sized-echelon n w zero k h rows s a b c = s
 sized-echelon n w (suc left) k h rows s a b c =
     let t = sized-eliminated n w h k rows s (omega arith) (omega arith) in
     either (Sized n w) (eq (cell k (rowOf rows (pivotRow h k rows))) zero64) (echelonFrom left (suc k) h rows)
-    (echelonFrom left (suc k) (suc h) (eliminated h k rows))
+    (echelonFrom left (suc k) (suc h) (columnEliminated h k rows))
     (sized-echelon n w left (suc k) h rows s (omega arith) (omega arith) c)
-    (sized-echelon n w left (suc k) (suc h) (eliminated h k rows) t (omega arith) (omega arith) c)
+    (sized-echelon n w left (suc k) (suc h) (columnEliminated h k rows) t (omega arith) (omega arith) c)
 
 sized-backfilled : (n w i : ℕ) (rows : List (List Float)) → Sized n w rows → i ≤ n → Sized n w (backfillFrom n i rows)
 unfolding backfillFrom
@@ -186,15 +203,16 @@ length-solution n c rows (eps ∷ more) s =
 
 -- ---- the coefficients of a fit
 
-pub length-beta : (D : ℕ) (ss : List Sample) → isSolved (fitOf D ss .outcome) ≡ true → length (fitOf D ss .beta) ≡ D
+pub length-coefficients : (D : ℕ) (ss : List Sample) → isSolved (fitOf D ss .outcome) ≡ true
+    → length (fitOf D ss .coefficients) ≡ D
 unfolding fitOf normal
-length-beta D [] h = absurd (false≢true h)
-length-beta D (s ∷ ss) h =
+length-coefficients D [] h = absurd (false≢true h)
+length-coefficients D (s ∷ ss) h =
     let z : Sized D (D + 1) (normal D (s ∷ ss)) = (length-tabulate D _, wide-normal D (s ∷ ss)) in
     let c = length-solution D 1 (normal D (s ∷ ss)) ridges z in
     counted (firstSolved D (normal D (s ∷ ss)) ridges) c h
   where
-    counted : (r : Solution) → cellsIn r (D * 1) → isSolved (fitBy (s ∷ ss) r .outcome) ≡ true
-        → length (fitBy (s ∷ ss) r .beta) ≡ D
+    counted : (r : Solution) → cellsIn r (D * 1) → isSolved (fitFrom (s ∷ ss) r .outcome) ≡ true
+        → length (fitFrom (s ∷ ss) r .coefficients) ≡ D
     counted (solved ridge cells) c t = c ∙ omega arith
     counted unsolved c t = absurd (false≢true t)

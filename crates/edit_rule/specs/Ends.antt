@@ -2,7 +2,7 @@
 -- them. Each clause stands under the sentence of document 01, in quotation marks, that it renders. Definitions only.
 use mathlib.Core.Path.{_≡_}
 use mathlib.Core.Bool.{Bool, true, false}
-use mathlib.Core.List.{List, map}
+use mathlib.Core.List.{List}
 use mathlib.Core.Option.{some}
 use Prim.Native.Nat.{ℕ, _<_}
 use lib.Ieee.{nan}
@@ -12,11 +12,12 @@ use Rattle.status.specs.Status.{accepted}
 use Rattle.feature.specs.Feature.{outside, training}
 use Rattle.edits.specs.Edits.{Edit, editedBy, touchOnly, rowAt}
 use Rattle.embedding.specs.Design.{orderOf}
-use Rattle.rt_matrix.specs.declared.Alignment.{Alignment}
+use Rattle.rt_matrix.specs.Columns.{columnsOf, firstOf}
+use Rattle.models.specs.Call.{ModelOutputs}
 use Rattle.models.specs.Prediction.{isSolved}
 use Rattle.run.specs.Fitted.{Part, ofRetention, ofMobility, modelOf, fitOfPart, resultOf}
 use Rattle.run.specs.Fitted.{Fitted, Predicted, RowOutcome, longest, fitted, outcome}
-use Rattle.run.specs.Call.{Input, ModelSlices, Slices, RunCall, rows, status}
+use Rattle.run.specs.Call.{Input, Slices, RunCall, rows, status}
 use Rattle.run.specs.declared.RunAnswer.{RunAnswer}
 use Rattle.run.specs.declared.RunAnswer.the-variants.{Ran, Refused}
 
@@ -34,9 +35,9 @@ pub record End : Type 0 where
   pub unrefused : status input before ≡ accepted
 
 -- what the program wrote for a model: its coefficients, and the predictions and errors of all rows
-abbrev pub outputsOf : Part → Slices → ModelSlices
-outputsOf ofRetention s = s .retention
-outputsOf ofMobility s = s .mobility
+abbrev pub writtenBy : Part → Slices → ModelOutputs
+writtenBy ofRetention s = s .retention
+writtenBy ofMobility s = s .mobility
 
 -- whether the model fits, as the program answered: "Failure to fit is 8 or 9"
 abbrev pub fits : Part → RunAnswer → Bool
@@ -64,15 +65,13 @@ pub record EditedOutside (a b : End) : Type 0 where
 -- "the records, coefficients, ridge, r2 and n"
 pub record SameFitted (a b : End) : Type 0 where
   -- the record of every file
-  pub maxRt : take (a .input .files) (b .after .maxRt) ≡ take (a .input .files) (a .after .maxRt)
-  pub slope : take (a .input .files) (b .after .slope) ≡ take (a .input .files) (a .after .slope)
-  pub intercept : take (a .input .files) (b .after .intercept) ≡ take (a .input .files) (a .after .intercept)
+  pub records : firstOf (a .input .files) (b .after .records) ≡ firstOf (a .input .files) (a .after .records)
   -- for either model ridge, r2 and n, which the answer carries, or the same failure 8 or 9
   pub answer : b .answer ≡ a .answer
   -- and its coefficients
-  pub beta : (part : Part) → fits part (a .answer) ≡ true
-      → take (orderOf (modelOf part)) (outputsOf part (b .after) .beta)
-      ≡ take (orderOf (modelOf part)) (outputsOf part (a .after) .beta)
+  pub coefficients : (part : Part) → fits part (a .answer) ≡ true
+      → take (orderOf (modelOf part)) (writtenBy part (b .after) .coefficients)
+      ≡ take (orderOf (modelOf part)) (writtenBy part (a .after) .coefficients)
 
 -- "Any row at one end and any row at the other that equals it to the bit in all seven count as one untouched row": the
 -- row k of a, the row l of b
@@ -80,9 +79,9 @@ pub record SameRow (a b : End) (k l : ℕ) : Type 0 where
   pub aligned : getD (b .after .aligned) l nan ≡ getD (a .after .aligned) k nan
   -- where the model fits
   pub prediction : (part : Part) → fits part (a .answer) ≡ true
-      → getD (outputsOf part (b .after) .predicted) l nan ≡ getD (outputsOf part (a .after) .predicted) k nan
+      → getD (writtenBy part (b .after) .predicted) l nan ≡ getD (writtenBy part (a .after) .predicted) k nan
   pub error : (part : Part) → fits part (a .answer) ≡ true
-      → getD (outputsOf part (b .after) .error) l nan ≡ getD (outputsOf part (a .after) .error) k nan
+      → getD (writtenBy part (b .after) .error) l nan ≡ getD (writtenBy part (a .after) .error) k nan
 
 -- "Their definition is that of the modules above, fed the training rows in order, file count, peptide table and longest
 -- times, and nothing the program wrote"
@@ -95,8 +94,8 @@ definition e =
 abbrev pub writtenFor : Part → End → ℕ → Predicted
 writtenFor part e k =
     record {
-      prediction = getD (outputsOf part (e .after) .predicted) k nan;
-      error = getD (outputsOf part (e .after) .error) k nan;
+      prediction = getD (writtenBy part (e .after) .predicted) k nan;
+      error = getD (writtenBy part (e .after) .error) k nan;
     }
 
 -- the results of the row k, as the definition has them
@@ -106,13 +105,11 @@ outcomeAt e k = outcome (e .input .table) (definition e) (rowAt (rows (e .input)
 -- The fitted numbers, or the failure, are what the definition gives from these, and each row's results what it gives
 -- from these and that row.
 pub record ByDefinition (e : End) : Type 0 where
-  pub maxRt : take (e .input .files) (e .after .maxRt) ≡ map (λ (r : Alignment). r .«max_rt») (definition e .records)
-  pub slope : take (e .input .files) (e .after .slope) ≡ map (λ (r : Alignment). r .slope) (definition e .records)
-  pub intercept : take (e .input .files) (e .after .intercept)
-      ≡ map (λ (r : Alignment). r .intercept) (definition e .records)
+  pub records : firstOf (e .input .files) (e .after .records) ≡ columnsOf (definition e .records)
   pub answer : e .answer ≡ Ran (definition e .retention .outcome) (definition e .mobility .outcome)
-  pub beta : (part : Part) → fits part (e .answer) ≡ true
-      → take (orderOf (modelOf part)) (outputsOf part (e .after) .beta) ≡ fitOfPart part (definition e) .beta
+  pub coefficients : (part : Part) → fits part (e .answer) ≡ true
+      → take (orderOf (modelOf part)) (writtenBy part (e .after) .coefficients)
+      ≡ fitOfPart part (definition e) .coefficients
   pub aligned : (k : ℕ) → k < length (rows (e .input)) → getD (e .after .aligned) k nan ≡ outcomeAt e k .aligned
   pub predicted : (part : Part) (k : ℕ) → fits part (e .answer) ≡ true → k < length (rows (e .input))
       → some (writtenFor part e k) ≡ resultOf part (outcomeAt e k)

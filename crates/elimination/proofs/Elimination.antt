@@ -11,7 +11,18 @@ use borrow.Author.Tests.{not-true, not-false}
 use lib.Ieee.{Float, nan, eq, le}
 use Rattle.float.specs.Number.{zero64}
 use Rattle.elimination.specs.Rows.{rowOf}
-use Rattle.elimination.specs.Elimination.{cell, lowest64, zeros, largest, pivotRow, eliminated, echelonFrom, cellSolved, rowSolved, solvedFrom}
+use Rattle.elimination.specs.Elimination.{
+  cell,
+  lowest64,
+  leadingZeros,
+  largest,
+  pivotRow,
+  columnEliminated,
+  echelonFrom,
+  cellSolved,
+  rowSolved,
+  solvedFrom,
+}
 
 -- ---- a case by a test that is known
 
@@ -26,22 +37,22 @@ if-false false x y e = refl
 -- ---- the zeros before a row's first other cell
 
 module _ (row : List Float) (j : ℕ) (h : j < length row) where
-  pub zeros-more : eq (getD row j nan) zero64 ≡ true → zeros (drop j row) ≡ suc (zeros (drop (suc j) row))
-  unfolding zeros
-  zeros-more e = rw (drop-cons row j nan h) (if-true (eq (getD row j nan) zero64) (suc (zeros (drop (suc j) row))) 0 e)
+  pub zeros-more : eq (getD row j nan) zero64 ≡ true → leadingZeros (drop j row) ≡ suc (leadingZeros (drop (suc j) row))
+  unfolding leadingZeros
+  zeros-more e = rw (drop-cons row j nan h) (if-true (eq (getD row j nan) zero64) (suc (leadingZeros (drop (suc j) row))) 0 e)
 
-  pub zeros-end : eq (getD row j nan) zero64 ≡ false → zeros (drop j row) ≡ 0
-  unfolding zeros
-  zeros-end e = rw (drop-cons row j nan h) (if-false (eq (getD row j nan) zero64) (suc (zeros (drop (suc j) row))) 0 e)
+  pub zeros-end : eq (getD row j nan) zero64 ≡ false → leadingZeros (drop j row) ≡ 0
+  unfolding leadingZeros
+  zeros-end e = rw (drop-cons row j nan h) (if-false (eq (getD row j nan) zero64) (suc (leadingZeros (drop (suc j) row))) 0 e)
 
 zeros-step : (b : Bool) (n m : ℕ) → n ≤ m → (elim b as (λ t. ℕ) [ true ↦ suc n | false ↦ 0 ]) ≤ suc m
 zeros-step true n m h = omega arith
 zeros-step false n m h = omega arith
 
-pub zeros-within : (row : List Float) → zeros row ≤ length row
-unfolding zeros
+pub zeros-within : (row : List Float) → leadingZeros row ≤ length row
+unfolding leadingZeros
 zeros-within [] = omega arith
-zeros-within (x ∷ row) = zeros-step (eq x zero64) (zeros row) (length row) (zeros-within row)
+zeros-within (x ∷ row) = zeros-step (eq x zero64) (leadingZeros row) (length row) (zeros-within row)
 
 -- ---- the search for a pivot row
 
@@ -81,9 +92,9 @@ pivot-within h k rows p l = largest-within (map (cell k) (drop h rows)) h 0 (len
 module _ (left k h : ℕ) (rows : List (List Float)) where
   pub column-passed : eq (cell k (rowOf rows (pivotRow h k rows))) zero64 ≡ true → echelonFrom (suc left) k h rows ≡ echelonFrom left (suc k) h rows
   unfolding echelonFrom
-  column-passed e = if-true (eq (cell k (rowOf rows (pivotRow h k rows))) zero64) _ (echelonFrom left (suc k) (suc h) (eliminated h k rows)) e
+  column-passed e = if-true (eq (cell k (rowOf rows (pivotRow h k rows))) zero64) _ (echelonFrom left (suc k) (suc h) (columnEliminated h k rows)) e
 
-  pub column-cleared : eq (cell k (rowOf rows (pivotRow h k rows))) zero64 ≡ false → echelonFrom (suc left) k h rows ≡ echelonFrom left (suc k) (suc h) (eliminated h k rows)
+  pub column-cleared : eq (cell k (rowOf rows (pivotRow h k rows))) zero64 ≡ false → echelonFrom (suc left) k h rows ≡ echelonFrom left (suc k) (suc h) (columnEliminated h k rows)
   unfolding echelonFrom
   column-cleared e = if-false (eq (cell k (rowOf rows (pivotRow h k rows))) zero64) (echelonFrom left (suc k) h rows) _ e
 
@@ -99,8 +110,8 @@ pub left-solved-row : (n i : ℕ) (rows : List (List Float)) → i < length rows
 unfolding solvedFrom
 left-solved-row n i rows h = rw (drop-cons rows i [] h) refl
 
--- A test r, negated in the code, of what stands first in a conjunction t, which is the whole w: where it fails so does the whole, and where it
--- holds the rest m is the whole.
+-- A test r, negated in the code, of what stands first in a conjunction t, which is the whole w: where it fails so
+-- does the whole, and where it holds the rest m is the whole.
 module _ (r a m t w : Bool) (is : r ≡ a) (first : t ≡ (a && m)) (whole : t ≡ w) where
   pub test-fails : not r ≡ true → false ≡ w
   test-fails e = sym (sym whole ∙ first ∙ rw (← is, not-true r e) refl)

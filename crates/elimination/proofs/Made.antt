@@ -1,5 +1,5 @@
--- A loop that makes each element of a list anew, from its index and what it was: for any elements and any way to make them.
--- Cells of a row and rows of a matrix both go by these laws.
+-- A loop that makes each element of a list anew, from its index and what it was: for any elements and any way to make
+-- them. Cells of a row and rows of a matrix both go by these laws.
 use mathlib.Core.Path.{_≡_, refl, sym, ap}
 use mathlib.Core.List.{List, [], _∷_, map}
 use Prim.Native.Nat.{ℕ, zero, suc, _≤_}

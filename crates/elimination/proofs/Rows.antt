@@ -9,7 +9,15 @@ use lib.ListN.{length, take, drop, set}
 use lib.Seq.{length-take-le}
 use Rattle.matrix.specs.Rows.{rowsOf}
 use borrow.Rule.Slice.PartMut.{same-len-mid}
-use Rattle.matrix.proofs.Laws.{row-end, row-rowsOf, rowsOf-put-row, rowsOf-append-add, rowsOf-take, take-rowsOf, drop-rowsOf}
+use Rattle.matrix.proofs.Laws.{
+  row-end,
+  row-rowsOf,
+  rowsOf-put-row,
+  rowsOf-append-add,
+  rowsOf-take,
+  take-rowsOf,
+  drop-rowsOf,
+}
 use Rattle.elimination.specs.Rows.{rowOf, augmented}
 use Rattle.elimination.proofs.Made.{made, made-suc}
 use Rattle.elimination.proofs.Parts.{part-length}
@@ -31,7 +39,8 @@ row-turn g rows i m w a k xs r inv h l ea ek er e =
 abbrev pub RowsMade : {A : Type 0} → (w m : ℕ) → (ℕ → List A → List A) → (xs₀ xs : List A) → (at i : ℕ) → Type 0
 RowsMade w m g xs₀ xs at i = (i ≤ m) × (at ≡ i * w) × (rowsOf w m xs ≡ made g i (rowsOf w m xs₀)) × (length xs ≡ length xs₀)
 
--- A turn of the loop, at row i: the part from `at` on is lent. It lies within the list and is a row; made anew, it leaves one row more made anew.
+-- A turn of the loop, at row i: the part from `at` on is lent. It lies within the list and is a row; made anew, it
+-- leaves one row more made anew.
 pub record Turn {A : Type 0} (w m : ℕ) (g : ℕ → List A → List A) (xs₀ xs : List A) (at i : ℕ) : Type 0 where
   pub fits : at + w ≤ length xs
   pub part : length (take (at + w - at) (drop at xs)) ≡ w

@@ -1,5 +1,5 @@
--- Gauss-Jordan elimination of a system of n equations, each row the n cells of the left side followed by those of the right.
--- Every operation is IEEE 754's on binary64, rounded once. Definitions only.
+-- Gauss-Jordan elimination of a system of n equations, each row the n cells of the left side followed by those of the
+-- right. Every operation is IEEE 754's on binary64, rounded once. Definitions only.
 use mathlib.Core.List.{List, [], _∷_, _++_, map}
 use mathlib.Core.Path.{_≡_}
 use mathlib.Core.Bool.{Bool, true, false, not, _&&_, _||_}
@@ -40,8 +40,8 @@ fillZero eps rows = indexed (ridged eps) rows
 
 -- ---- echelon form
 
--- The best row so far is best, with the value x; the candidates, from row i down, have the values ys. A later row is taken whenever its value
--- is at least the best: of equals the last, and no NaN.
+-- The best row so far is best, with the value x; the candidates, from row i down, have the values ys. A later row is
+-- taken whenever its value is at least the best: of equals the last, and no NaN.
 unfoldable pub largest : ℕ → ℕ → Float → List Float → ℕ
 largest i best x [] = best
 largest i best x (y ∷ ys) = elim (le x y) [ true ↦ largest (suc i) i y ys | false ↦ largest (suc i) best x ys ]
@@ -50,7 +50,8 @@ largest i best x (y ∷ ys) = elim (le x y) [ true ↦ largest (suc i) i y ys | 
 abbrev pub pivotRow : ℕ → ℕ → List (List Float) → ℕ
 pivotRow h k rows = largest h 0 lowest64 (map (cell k) (drop h rows))
 
--- A row below the pivot row: column k becomes +0.0, each cell right of it is less the pivot row's times the factor, and those left of it stay.
+-- A row below the pivot row: column k becomes +0.0, each cell right of it is less the pivot row's times the factor,
+-- and those left of it stay.
 unfoldable pub cleared : ℕ → List Float → List Float → List Float
 cleared k pivot row =
     take k row
@@ -62,8 +63,8 @@ unfoldable pub clearBelow : ℕ → ℕ → List (List Float) → List (List Flo
 clearBelow h k rows = take (suc h) rows ++ map (cleared k (rowOf rows h)) (drop (suc h) rows)
 
 -- the pivot row brought to row h, and column k cleared below it
-unfoldable pub eliminated : ℕ → ℕ → List (List Float) → List (List Float)
-eliminated h k rows = clearBelow h k (swapped h (pivotRow h k rows) rows)
+unfoldable pub columnEliminated : ℕ → ℕ → List (List Float) → List (List Float)
+columnEliminated h k rows = clearBelow h k (swapped h (pivotRow h k rows) rows)
 
 -- So many columns from column k on, with h pivot rows above. A column whose chosen cell is zero is passed over.
 unfoldable pub echelonFrom : ℕ → ℕ → ℕ → List (List Float) → List (List Float)
@@ -71,7 +72,7 @@ echelonFrom zero k h rows = rows
 echelonFrom (suc left) k h rows =
     elim (eq (cell k (rowOf rows (pivotRow h k rows))) zero64) [
       | true ↦ echelonFrom left (suc k) h rows
-      | false ↦ echelonFrom left (suc k) (suc h) (eliminated h k rows)
+      | false ↦ echelonFrom left (suc k) (suc h) (columnEliminated h k rows)
     ]
 
 abbrev pub echelon : ℕ → List (List Float) → List (List Float)
@@ -80,15 +81,16 @@ echelon n rows = echelonFrom n 0 0 rows
 -- ---- reduced form
 
 -- how many cells are zero before the first that is not. A NaN is not.
-unfoldable pub zeros : List Float → ℕ
-zeros [] = 0
-zeros (x ∷ xs) = elim (eq x zero64) [ true ↦ suc (zeros xs) | false ↦ 0 ]
+unfoldable pub leadingZeros : List Float → ℕ
+leadingZeros [] = 0
+leadingZeros (x ∷ xs) = elim (eq x zero64) [ true ↦ suc (leadingZeros xs) | false ↦ 0 ]
 
 -- the place of a row's first nonzero left cell, n where there is none
 abbrev pub leading : ℕ → List Float → ℕ
-leading n row = zeros (take n row)
+leading n row = leadingZeros (take n row)
 
--- A row divided by its first nonzero left cell, from there rightwards; the cells left of it stay. A row without one stays.
+-- A row divided by its first nonzero left cell, from there rightwards; the cells left of it stay. A row without one
+-- stays.
 unfoldable pub divided : ℕ → List Float → List Float
 divided n row =
     let j = leading n row in
@@ -97,7 +99,8 @@ divided n row =
 abbrev pub reduce : ℕ → List (List Float) → List (List Float)
 reduce n rows = map (divided n) rows
 
--- A row above less the given row times the factor that clears the given row's first nonzero left cell j there, over the full row.
+-- A row above less the given row times the factor that clears the given row's first nonzero left cell j there, over
+-- the full row.
 unfoldable pub lessMultiple : ℕ → List Float → List Float → List Float
 lessMultiple j by row = zipped (lessScaled (div binary64 (cell j row) (cell j by))) row by
 
@@ -142,7 +145,8 @@ leftSolved n rows = solvedFrom n 0 rows
 unfoldable pub eliminate : ℕ → Float → List (List Float) → List (List Float)
 eliminate n eps rows = backfill n (reduce n (echelon n (fillZero eps rows)))
 
--- The contract of `solve_inner`: the cells before and after a try with c right columns, and whether it solved the left side.
+-- The contract of `solve_inner`: the cells before and after a try with c right columns, and whether it solved the
+-- left side.
 pub record Tried (n c : ℕ) (eps : Float) (cells₀ cells₁ : List Float) (r : Bool) : Type 0 where
   pub rows : rowsOf (n + c) n cells₁ ≡ eliminate n eps (rowsOf (n + c) n cells₀)
   pub cells : cells₁ ≡ flat (eliminate n eps (rowsOf (n + c) n cells₀))

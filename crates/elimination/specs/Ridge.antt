@@ -15,7 +15,8 @@ ten64 = fin false 5 (pos 1)
 -- eps and its products with 10.0, each rounded, while at most 1.0: so many of them at most
 unfoldable pub ridgesFrom : ℕ → Float → List Float
 ridgesFrom zero eps = []
-ridgesFrom (suc count) eps = elim (le eps one64) [ true ↦ eps ∷ ridgesFrom count (mul binary64 eps ten64) | false ↦ [] ]
+ridgesFrom (suc count) eps =
+    elim (le eps one64) [ true ↦ eps ∷ ridgesFrom count (mul binary64 eps ten64) | false ↦ [] ]
 
 -- from 1E-8. There are nine, so that the 16 cuts none off.
 abbrev pub ridges : List Float

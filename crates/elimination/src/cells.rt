@@ -3,14 +3,15 @@ ghost use mathlib.Core.Path.{_≡_};
 ghost use Prim.Native.Nat.{_*_, _≤_, _<_};
 ghost use lib.ListN.{length, take};
 ghost use Rattle.matrix.specs.Rows.{rowsOf};
-ghost use Rattle.elimination.specs.Rows.{Shape, rowOf};
+ghost use Rattle.status.specs.Limits.{maxOrder};
+ghost use Rattle.elimination.specs.Rows.{maxWidth, Shape, rowOf};
 
-// The widest row: 100 left cells and 8 right ones.
-pub(crate) const MAX_WIDTH: usize = 108;
+// The cells of the widest row, left and right.
+pub(crate) const MAX_WIDTH: usize = status::MAX_ORDER + status::MAX_COLUMNS;
 
 // The place of a row's first cell, for a row that is not reached by walking.
 pub(crate) fn row_start(row: usize, w: usize) -> usize
-    requires { ⌜ (row ≤ 100) × (w ≤ 108) ⌝ }
+    requires { ⌜ (row ≤ maxOrder) × (w ≤ maxWidth) ⌝ }
     ensures { λ r. ⌜ r ≡ row * w ⌝ }
 {
     ((row as u32) * (w as u32)) as usize
@@ -42,7 +43,7 @@ pub(crate) fn copy_canonical(dst: &mut [f64], src: &[f64])
 
 // A row of zeros of the greatest width. The `ensures` gives only the length, which lending a part of it needs.
 fn blank_row() -> [f64; MAX_WIDTH]
-    ensures { λ r. ⌜ length r ≡ 108 ⌝ }
+    ensures { λ r. ⌜ length r ≡ maxWidth ⌝ }
 {
     [0.0; MAX_WIDTH]
 }
@@ -50,7 +51,7 @@ fn blank_row() -> [f64; MAX_WIDTH]
 // A copy of row i in an array of its own, so that the row can be read while other rows are written.
 pub(crate) fn row_copy(cells: &[f64], n: usize, w: usize, i: usize) -> [f64; MAX_WIDTH]
     requires { ⌜ Shape n w (now cells) × (i < n) ⌝ }
-    ensures { λ r. ⌜ (take w r ≡ rowOf (rowsOf w n (now (cells .entry))) i) × (length r ≡ 108) ⌝ }
+    ensures { λ r. ⌜ (take w r ≡ rowOf (rowsOf w n (now (cells .entry))) i) × (length r ≡ maxWidth) ⌝ }
 {
     let mut row = blank_row();
     copy(&mut row[..w], matrix::row_slice(cells, i as u32, w as u32));

@@ -52,7 +52,8 @@ fn pivot(cells: &[f64], n: usize, w: usize, h: usize, k: usize) -> usize
 // Clears column k of each of the m rows of `cells` by the pivot row.
 fn clear_rows(cells: &mut [f64], m: usize, pivot: &[f64], k: usize)
     requires { ⌜ (length (now cells) ≡ m * length (now pivot)) × (k < length (now pivot)) ⌝ }
-    ensures { λ _. ⌜ rowsOf (length (now (pivot .entry))) m (now (cells .exit)) ≡ map (cleared k (now (pivot .entry))) (rowsOf (length (now (pivot .entry))) m (now (cells .entry))) ⌝ }
+    ensures { λ _. ⌜ rowsOf (length (now (pivot .entry))) m (now (cells .exit))
+        ≡ map (cleared k (now (pivot .entry))) (rowsOf (length (now (pivot .entry))) m (now (cells .entry))) ⌝ }
 {
     let w = pivot.len();
     let mut i = 0;
@@ -76,9 +77,10 @@ fn clear_below(cells: &mut [f64], n: usize, w: usize, h: usize, k: usize)
 }
 
 // Brings the pivot row i to row h, and clears column k below it.
-fn eliminate(cells: &mut [f64], n: usize, w: usize, h: usize, i: usize, k: usize)
+fn eliminate_column(cells: &mut [f64], n: usize, w: usize, h: usize, i: usize, k: usize)
     requires { ⌜ Shape n w (now cells) × (h < n) × (i < n) × (k < n) ⌝ }
-    ensures { λ _. ⌜ rowsOf w n (now (cells .exit)) ≡ clearBelow h k (swapped h i (rowsOf w n (now (cells .entry)))) ⌝ }
+    ensures { λ _. ⌜ rowsOf w n (now (cells .exit))
+        ≡ clearBelow h k (swapped h i (rowsOf w n (now (cells .entry)))) ⌝ }
 {
     matrix::swap_rows(cells, n as u32, w as u32, h as u32, i as u32);
     clear_below(cells, n, w, h, k);
@@ -98,7 +100,7 @@ pub(crate) fn echelon(cells: &mut [f64], n: usize, w: usize)
             k += 1;
             continue;
         }
-        eliminate(cells, n, w, h, i, k);
+        eliminate_column(cells, n, w, h, i, k);
         h += 1;
         k += 1;
     }

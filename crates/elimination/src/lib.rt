@@ -1,5 +1,6 @@
-// The elimination of gauss.rs on the rows [left | right] of a system: the ridge on the diagonal, echelon form, reduced form, and whether the
-// left side is solved. The crates above walk the ridges: gauss on a copy of the two sides, regression on its own workspace.
+// The elimination of gauss.rs on the rows [left | right] of a system: the ridge on the diagonal, echelon form,
+// reduced form, and whether the left side is solved. The crates above walk the ridges: gauss on a copy of the two
+// sides, regression on its own workspace.
 ghost use Prim.Native.Nat.{_+_};
 ghost use Rattle.elimination.specs.Rows.{Shape};
 ghost use Rattle.elimination.specs.Elimination.{Tried};
@@ -13,8 +14,8 @@ mod system;
 pub use system::augment;
 pub use system::right_side;
 
-// One try on the rows [left | right] of n + c cells each: adds the ridge `eps` to the left diagonal, eliminates, and says whether the left side
-// is solved; then the right side holds the solution. For crates gauss and regression.
+// One try on the rows [left | right] of n + c cells each: adds the ridge `eps` to the left diagonal, eliminates, and
+// says whether the left side is solved; then the right side holds the solution. For crates gauss and regression.
 pub fn solve_inner(cells: &mut [f64], n: usize, c: usize, eps: f64) -> bool
     requires { ⌜ Shape n (n + c) (now cells) ⌝ }
     ensures { λ r. ⌜ Tried n c eps (now (cells .entry)) (now (cells .exit)) r ⌝ }

@@ -5,7 +5,15 @@ ghost use Prim.Native.Nat.{_*_, _<_};
 ghost use lib.ListN.{length};
 ghost use Rattle.matrix.specs.Rows.{rowsOf};
 ghost use Rattle.elimination.specs.Rows.{Shape};
-ghost use Rattle.elimination.specs.Elimination.{lessMultiple, reduce, clearAbove, backfill, cellSolved, rowSolved, leftSolved};
+ghost use Rattle.elimination.specs.Elimination.{
+  lessMultiple,
+  reduce,
+  clearAbove,
+  backfill,
+  cellSolved,
+  rowSolved,
+  leftSolved,
+};
 use crate::cells::row_copy;
 use crate::cells::row_start;
 use crate::row::divide_row;
@@ -30,7 +38,8 @@ pub(crate) fn reduce(cells: &mut [f64], n: usize, w: usize)
 // Subtracts from each of the m rows of `cells` the multiple of `by` that clears column j.
 fn subtract_multiples(cells: &mut [f64], m: usize, by: &[f64], j: usize)
     requires { ⌜ (length (now cells) ≡ m * length (now by)) × (j < length (now by)) ⌝ }
-    ensures { λ _. ⌜ rowsOf (length (now (by .entry))) m (now (cells .exit)) ≡ map (lessMultiple j (now (by .entry))) (rowsOf (length (now (by .entry))) m (now (cells .entry))) ⌝ }
+    ensures { λ _. ⌜ rowsOf (length (now (by .entry))) m (now (cells .exit))
+        ≡ map (lessMultiple j (now (by .entry))) (rowsOf (length (now (by .entry))) m (now (cells .entry))) ⌝ }
 {
     let w = by.len();
     let mut i = 0;

@@ -4,7 +4,14 @@ ghost use mathlib.Core.List.{map};
 ghost use Prim.Native.Nat.{_≤_, _<_};
 ghost use lib.ListN.{length};
 ghost use Rattle.matrix.specs.Lists.{zipped};
-ghost use Rattle.elimination.specs.Elimination.{lessScaled, dividedBy, zeros, cleared, divided, lessMultiple};
+ghost use Rattle.elimination.specs.Elimination.{
+  lessScaled,
+  dividedBy,
+  leadingZeros,
+  cleared,
+  divided,
+  lessMultiple,
+};
 
 // Subtracts `factor` times `src` from `dst`, cell by cell, each product and each difference rounded once.
 pub(crate) fn subtract_scaled(dst: &mut [f64], src: &[f64], factor: f64)
@@ -31,7 +38,7 @@ fn divide(dst: &mut [f64], x: f64)
 
 // The place of the first cell that is not zero, the length where there is none. A NaN is not zero.
 pub(crate) fn first_nonzero(row: &[f64]) -> usize
-    ensures { λ r. ⌜ r ≡ zeros (now (row .entry)) ⌝ }
+    ensures { λ r. ⌜ r ≡ leadingZeros (now (row .entry)) ⌝ }
 {
     let mut j = 0;
     while j < row.len() {

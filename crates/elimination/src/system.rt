@@ -21,8 +21,11 @@ fn join(row: &mut [f64], left: &[f64], right: &[f64])
 
 // The rows [left | right]. For crate gauss.
 pub fn augment(cells: &mut [f64], left: &[f64], right: &[f64], n: usize, c: usize)
-    requires { ⌜ (length (now cells) ≡ n * (n + c)) × (length (now left) ≡ n * n) × (length (now right) ≡ n * c) ⌝ }
-    ensures { λ _. ⌜ rowsOf (n + c) n (now (cells .exit)) ≡ augmented (rowsOf n n (now (left .entry))) (rowsOf c n (now (right .entry))) ⌝ }
+    requires { ⌜ (length (now cells) ≡ n * (n + c))
+        × (length (now left) ≡ n * n)
+        × (length (now right) ≡ n * c) ⌝ }
+    ensures { λ _. ⌜ rowsOf (n + c) n (now (cells .exit))
+        ≡ augmented (rowsOf n n (now (left .entry))) (rowsOf c n (now (right .entry))) ⌝ }
 {
     let mut i = 0;
     let mut at = 0;

@@ -1,5 +1,5 @@
--- Laws of class counts, for any table of classes, any number of a letter that the table is read with and any number of counters: the counters at a
--- class's numbers add up to the letters in the class, and do so in floats.
+-- Laws of class counts, for any table of classes, any number of a letter that the table is read with and any number of
+-- counters: the counters at a class's numbers add up to the letters in the class, and do so in floats.
 use mathlib.Core.Path.{_≡_, refl, sym, ap, _∙_}
 use mathlib.Core.Bool.{Bool, true, _&&_}
 use mathlib.Core.List.{List, [], _∷_, _++_, map}

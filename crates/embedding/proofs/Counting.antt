@@ -1,5 +1,5 @@
--- Laws of counting in a list: a tally with one element more, its length and cells, and that the counts of different numbers add up to the count
--- of the elements that are one of them.
+-- Laws of counting in a list: a tally with one element more, its length and cells, and that the counts of different
+-- numbers add up to the count of the elements that are one of them.
 use mathlib.Core.Path.{_≡_, refl, sym, ap, _∙_, subst}
 use mathlib.Core.Bool.{Bool, true, false, not, _&&_, _||_, cond}
 use mathlib.Core.List.{List, [], _∷_, _++_, map}
@@ -126,7 +126,8 @@ tally-more m xs x h =
     there : (k : ℕ) → (k ≡ 0 + x → ⊥) → howMany (λ y. eqb y k) xs ≡ howMany (λ y. eqb y k) (xs ++ (x ∷ []))
     there k d = rw (one k, ne-eqb x k (λ e. d (omega arith)), add-zero)
 
--- A tally's cells at some numbers are the tally of those: what it tallies is below m, so a number from m on, which has no cell, is met nowhere.
+-- A tally's cells at some numbers are the tally of those: what it tallies is below m, so a number from m on, which has
+-- no cell, is met nowhere.
 module _ (m : ℕ) (f : ℕ → ℕ) (below : (x : ℕ) → f x < m) (xs : List ℕ) where
   none-above : (ys : List ℕ) (k : ℕ) → m ≤ k → howMany (λ x. eqb x k) (map f ys) ≡ 0
   unfolding howMany

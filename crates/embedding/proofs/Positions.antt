@@ -1,5 +1,5 @@
--- Laws of positions: the elements at all positions from f up to t are that part of the list, and the three selections of a peptide's positions
--- are such.
+-- Laws of positions: the elements at all positions from f up to t are that part of the list, and the three selections
+-- of a peptide's positions are such.
 use mathlib.Core.Path.{_≡_, refl, sym, ap, _∙_}
 use mathlib.Core.Bool.{Bool, true, false, not, _&&_, _||_, cond}
 use mathlib.Core.List.{List, [], _∷_}

@@ -1,4 +1,5 @@
--- Laws of a row that is written from its first cell on: one cell made from a list's element after the other, and one block after the other.
+-- Laws of a row that is written from its first cell on: one cell made from a list's element after the other, and one
+-- block after the other.
 use mathlib.Core.Path.{_≡_, refl, sym, ap, _∙_}
 use mathlib.Core.Bool.{Bool}
 use mathlib.Core.List.{List, [], _∷_, _++_, map, append-assoc}
@@ -38,7 +39,8 @@ pub record Done {A : Type 0} (a : ℕ) (done old row : List A) : Type 0 where
 pub done-none : {A : Type 0} (old : List A) → Done 0 [] old old
 done-none old = record { cells = refl; long = refl }
 
--- One block more: from a on a part of w cells was lent, and came back with the block b, of k cells, and behind it what it held.
+-- One block more: from a on a part of w cells was lent, and came back with the block b, of k cells, and behind it what
+-- it held.
 pub next-block : {A : Type 0} (a k w : ℕ) (done b old row back : List A) → Done a done old row → length b ≡ k → k ≤ w → a + w ≤ length old
     → back ≡ b ++ drop k (take w (drop a row)) → Done (a + k) (done ++ b) old (returned a w row back)
 next-block {A} a k w done b old row back so size fits room e = record {

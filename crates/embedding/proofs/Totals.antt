@@ -1,5 +1,5 @@
--- What holds of every peptide's row, for both models at once: the row has the model's order, and each of its three blocks of 22 counts adds up to
--- the number of positions that it counts.
+-- What holds of every peptide's row, for both models at once: the row has the model's order, and each of its three
+-- blocks of 22 counts adds up to the number of positions that it counts.
 use mathlib.Core.Path.{_≡_, refl, sym, ap, _∙_}
 use mathlib.Core.Bool.{Bool}
 use mathlib.Core.List.{List, map}
@@ -20,7 +20,8 @@ use Rattle.embedding.proofs.Positions.{chosen-everywhere, chosen-n, cho
 
 -- ---- totals of counts
 
--- The counts of a selection of positions, whichever it is, total the number of positions selected: each letter has one of the 22 columns.
+-- The counts of a selection of positions, whichever it is, total the number of positions selected: each letter has one
+-- of the 22 columns.
 pub total-counts : (sel : ℕ → ℕ → Bool) (letters : List ℕ) → total (counts sel letters) ≡ length (chosen sel letters)
 unfolding counts distinct
 total-counts sel letters =

@@ -30,7 +30,8 @@ negative = 3 ∷ 4 ∷ []  -- D E
 abbrev pub classes : List (List ℕ)
 classes = branched ∷ tiny ∷ polar ∷ bulky ∷ positive ∷ negative ∷ []
 
--- The number of a letter that the table is read with: its column, and not its place in the alphabet. So K, whose column is 8, counts as bulky.
+-- The number of a letter that the table is read with: its column, and not its place in the alphabet. So K, whose column
+-- is 8, counts as bulky.
 abbrev pub classNumber : ℕ → ℕ
 classNumber = columnOf
 

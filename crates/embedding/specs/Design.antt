@@ -1,4 +1,5 @@
--- The design rows: the 69 columns of the retention model and the 100 of the mobility model, from a peptide's letters. Definitions only.
+-- The design rows: the 69 columns of the retention model and the 100 of the mobility model, from a peptide's letters.
+-- Definitions only.
 use Prim.Native.Nat.{ℕ, _+_, _-_}
 use mathlib.Core.Bool.{Bool, true, not, _&&_, _||_}
 use mathlib.Core.List.{List, [], _∷_, _++_, map}
@@ -26,7 +27,8 @@ everywhere n i = true
 abbrev pub nTerminal : ℕ → ℕ → Bool
 nTerminal n i = ltb i 2
 
--- With c = n less 3, not below 0: c and c + 1 for retention, those above c for mobility. What is N-terminal is not C-terminal.
+-- With c = n less 3, not below 0: c and c + 1 for retention, those above c for mobility. What is N-terminal is not
+-- C-terminal.
 abbrev pub cTerminal : Model → ℕ → ℕ → Bool
 cTerminal Retention n i = not (nTerminal n i) && (eqb i (n - 3) || eqb i (n - 3 + 1))
 cTerminal Mobility n i = not (nTerminal n i) && ltb (n - 3) i
@@ -66,13 +68,23 @@ block sel letters = map number (counts sel letters)
 unfoldable pub retentionRow : List ℕ → Float → List Float
 unfolding block
 retentionRow letters log =
-    block everywhere letters ++ block nTerminal letters ++ block (cTerminal Retention) letters ++ number (length letters) ∷ log ∷ number 1 ∷ []
+    block everywhere letters
+    ++ block nTerminal letters
+    ++ block (cTerminal Retention) letters
+    ++ number (length letters) ∷ log ∷ number 1 ∷ []
 
--- the last columns: 1/charge, charge, (mass/charge)/1000, length n, mass/1000, 1.0. Charge 0 gives an infinite 1/charge.
+-- the last columns: 1/charge, charge, (mass/charge)/1000, length n, mass/1000, 1.0. Charge 0 gives an infinite
+-- 1/charge.
 unfoldable pub mobilityScalars : ℕ → Float → ℕ → List Float
 mobilityScalars n mass charge =
     let z = number charge in
-    div binary64 (number 1) z ∷ z ∷ div binary64 (div binary64 mass z) (number 1000) ∷ number n ∷ div binary64 mass (number 1000) ∷ number 1 ∷ []
+    div binary64 (number 1) z
+    ∷ z
+    ∷ div binary64 (div binary64 mass z) (number 1000)
+    ∷ number n
+    ∷ div binary64 mass (number 1000)
+    ∷ number 1
+    ∷ []
 
 unfoldable pub mobilityRow : List ℕ → Float → ℕ → List Float
 unfolding block counts classCounts mobilityScalars

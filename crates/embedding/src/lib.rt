@@ -32,7 +32,8 @@ pub fn order(model: Model) -> usize
 pub fn embed(model: Model, letters: &[u8], log: f64, mass: f32, charge: u8, row: &mut [f64])
     requires { ⌜ length (now letters) < 2 ^ 32 ⌝ }
     requires { ⌜ orderOf model ≤ length (now row) ⌝ }
-    ensures { λ _. ⌜ now (row .exit) ≡ design model (now (letters .entry)) log mass charge ++ drop (orderOf model) (now (row .entry)) ⌝ }
+    ensures { λ _. ⌜ now (row .exit)
+        ≡ design model (now (letters .entry)) log mass charge ++ drop (orderOf model) (now (row .entry)) ⌝ }
 {
     match model {
         Model::Retention => retention_model::embed(letters, log, row),

@@ -11,7 +11,21 @@ use Rattle.status.specs.Checks.{every}
 use Rattle.feature.specs.Feature.{trains, mask, kept}
 use Rattle.matrix.specs.Lists.{zipped, tabulate}
 use Rattle.elimination.specs.Rows.{indexed, augmented}
-use Rattle.elimination.specs.Elimination.{largest, cleared, clearBelow, eliminated, echelonFrom, zeros, divided, lessMultiple, clearAbove, backfillFrom, rowSolved, solvedFrom, eliminate}
+use Rattle.elimination.specs.Elimination.{
+  largest,
+  cleared,
+  clearBelow,
+  columnEliminated,
+  echelonFrom,
+  leadingZeros,
+  divided,
+  lessMultiple,
+  clearAbove,
+  backfillFrom,
+  rowSolved,
+  solvedFrom,
+  eliminate,
+}
 use Rattle.elimination.specs.Ridge.{ridgesFrom, firstSolved}
 use Rattle.gauss.specs.Solve.{solutionOf}
 use Rattle.regression.specs.Regression.{normal, fitOf}
@@ -19,10 +33,10 @@ use Rattle.embedding.specs.Design.{design}
 use Rattle.rt_matrix.specs.Line.{share, present, mean, keptRows, pointOf, points, finiteOr, lineOf, line, lines}
 use Rattle.retention_alignment.specs.Observation.{observations, maxRt, maxRts, times, smaller, minRt, minRts}
 use Rattle.retention_alignment.specs.Alignments.{alignments, onLine, aligned}
-use Rattle.retention_alignment.specs.Call.{firstFailed, statusOf, filled, slicesAfter}
+use Rattle.retention_alignment.specs.Call.{statusBy, filled, slicesAfter}
 use Rattle.align_text.specs.AlignText.{alignText}
 use Rattle.examples.specs.Examples.{sameList, holds, examples}
 
 pub all-hold : every holds examples ≡ true
-unfolding every sameList examples zipWith headD sub mul div le ofInt ofBits toBits narrowed ceiling isFinite isNormal columnOf placeFrom validAa rowsOf flat trains mask kept indexed augmented zipped largest cleared clearBelow eliminated echelonFrom zeros divided lessMultiple clearAbove backfillFrom rowSolved solvedFrom eliminate ridgesFrom firstSolved solutionOf normal fitOf design tabulate share present mean keptRows pointOf points finiteOr lineOf line lines observations maxRt maxRts times smaller minRt minRts alignments onLine aligned firstFailed statusOf filled slicesAfter alignText
+unfolding every sameList examples zipWith headD sub mul div le ofInt ofBits toBits narrowed ceiling isFinite isNormal columnOf placeFrom validAa rowsOf flat trains mask kept indexed augmented zipped largest cleared clearBelow columnEliminated echelonFrom leadingZeros divided lessMultiple clearAbove backfillFrom rowSolved solvedFrom eliminate ridgesFrom firstSolved solutionOf normal fitOf design tabulate share present mean keptRows pointOf points finiteOr lineOf line lines observations maxRt maxRts times smaller minRt minRts alignments onLine aligned statusBy filled slicesAfter alignText
 all-hold = refl

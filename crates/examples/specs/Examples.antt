@@ -1,5 +1,5 @@
--- Document 01's P examples in its order, and its table's numbers for three small fits: numbers that the definitions give, beside the numbers
--- that the document says. Definitions only.
+-- Document 01's P examples in its order, and its table's numbers for three small fits: numbers that the definitions
+-- give, beside the numbers that the document says. Definitions only.
 use Prim.Native.Nat.{ℕ}
 use Prim.Native.String.{String}
 use mathlib.Core.Bool.{Bool, true, false, _&&_}
@@ -15,8 +15,9 @@ use Rattle.embedding.specs.declared.Model.the-variants.{Retention, Mobility}
 use Rattle.float.specs.Number.{number, sumFrom}
 use Rattle.embedding.specs.Design.{design, cTerminalAt}
 use Rattle.elimination.specs.Ridge.{Solution, solved, unsolved}
-use Rattle.gauss.specs.Solve.{solutionOf, statusFor, checked, needed, outputs}
-use Rattle.regression.specs.Regression.{Sample, Values, fitOf, statusOf, valuesOf}
+use Rattle.status.specs.Told.{toldFor}
+use Rattle.gauss.specs.Solve.{solutionOf, solutionTold, statusBy, needed, outputs}
+use Rattle.regression.specs.Regression.{Sample, Values, fitOf, toldBy}
 use Rattle.retention_alignment.specs.Observation.{maxRts}
 use Rattle.retention_alignment.specs.Call.{Input, Slices, rows, status, slicesAfter}
 use Rattle.align_text.specs.AlignText.{alignText}
@@ -43,7 +44,8 @@ floats f bs = map (ofBits f) bs
 
 -- ---- the alignment
 
--- One file and so many peptides, with a row of peptide 0 for each of these times, given as the bits of an f32. Each row has label 1 and q 0.
+-- One file and so many peptides, with a row of peptide 0 for each of these times, given as the bits of an f32. Each
+-- row has label 1 and q 0.
 abbrev pub oneFile : ℕ → List ℕ → Input
 oneFile peptides times =
     let n = length times in
@@ -69,9 +71,7 @@ abbrev pub before : Input → Slices
 before i =
     record {
       workspace = unwritten (i .peptides);
-      maxRt = unwritten 1;
-      slope = unwritten 1;
-      intercept = unwritten 1;
+      records = record { maxRt = unwritten 1; slope = unwritten 1; intercept = unwritten 1 };
       aligned = unwritten (length (i .file));
     }
 
@@ -81,7 +81,9 @@ after i = slicesAfter i (before i)
 
 -- the status, then as bits the file's longest time, slope and intercept, and the rows' aligned times
 abbrev pub alignment : Input → List ℕ
-alignment i = status i (before i) ∷ bits binary32 (after i .maxRt ++ after i .slope ++ after i .intercept ++ after i .aligned)
+alignment i =
+    let r = after i .records in
+    status i (before i) ∷ bits binary32 (r .maxRt ++ r .slope ++ r .intercept ++ after i .aligned)
 
 -- ---- the program
 
@@ -118,7 +120,8 @@ answer status unsolved = status ∷ []
 abbrev pub solution : ℕ → List ℕ → List ℕ → List ℕ
 solution n left right =
     let s = solutionOf n 1 (floats binary64 left) (floats binary64 right) in
-    answer (statusFor (checked (length left) (length right) n 1 (needed n 1) (outputs n 1)) s) s
+    let status = statusBy (length left) (length right) n 1 (needed n 1) (outputs n 1) in
+    answer (toldFor status (solutionTold s) .status) s
 
 -- the bits of 1E-8, -1E-8, 1.0, -1.0, 5.0 and a NaN
 abbrev pub tiny : ℕ
@@ -141,7 +144,8 @@ aNaN = 0x7FF8_0000_0000_0000
 
 -- ---- a fit
 
--- of order 1 to samples with these cells, given as bits, and the target 5.0: its number and, where it is solved, its ridge as bits and n
+-- of order 1 to samples with these cells, given as bits, and the target 5.0: its number and, where it is solved, its
+-- ridge as bits and n
 abbrev pub fitNumbers : ℕ → Option Values → List ℕ
 fitNumbers status none = status ∷ []
 fitNumbers status (some v) = status ∷ toBits binary64 (v .ridge) ∷ v .n ∷ []
@@ -152,7 +156,7 @@ sample cell = record { row = ofBits binary64 cell ∷ []; y = ofBits binary64 fi
 abbrev pub fit : List ℕ → List ℕ
 fit cells =
     let outcome = fitOf 1 (map sample cells) .outcome in
-    fitNumbers (statusOf outcome) (valuesOf outcome)
+    fitNumbers (toldBy outcome .status) (toldBy outcome .values)
 
 -- ---- the list
 
@@ -164,7 +168,7 @@ examples =
     ∷ record { given = longest (oneFile 1 (0xC040_0000 ∷ [])); said = 0 ∷ [] }
     -- "5E9 gives 4,294,967,295, in f32 4,294,967,296", of which the bits are 4F800000
     ∷ record {
-      given = longest (oneFile 1 (0x4F95_02F9 ∷ [])) ++ bits binary32 (after (oneFile 1 (0x4F95_02F9 ∷ [])) .maxRt);
+      given = longest (oneFile 1 (0x4F95_02F9 ∷ [])) ++ bits binary32 (after (oneFile 1 (0x4F95_02F9 ∷ [])) .records .maxRt);
       said = 4_294_967_295 ∷ 0x4F80_0000 ∷ [];
     }
     -- "no rows: slope 1, intercept 0, longest 0", without peptides and with one
@@ -174,12 +178,34 @@ examples =
     }
     -- "the program's row": its text, and the text that is printed
     ∷ record {
-      given = alignText (text ("files=1" ∷ "peptides=1" ∷ "file=0" ∷ "peptide=0" ∷ "label=1" ∷ "q=00000000" ∷ "rt=41200000" ∷ []));
-      said = text ("status=0" ∷ "file=0" ∷ "max=41200000" ∷ "slope=00000000" ∷ "intercept=3F800000" ∷ "aligned=3F800000" ∷ []);
+      given =
+          alignText
+          (text
+          ("files=1"
+          ∷ "peptides=1"
+          ∷ "file=0"
+          ∷ "peptide=0"
+          ∷ "label=1"
+          ∷ "q=00000000"
+          ∷ "rt=41200000"
+          ∷ []));
+      said =
+          text
+          ("status=0"
+          ∷ "file=0"
+          ∷ "max=41200000"
+          ∷ "slope=00000000"
+          ∷ "intercept=3F800000"
+          ∷ "aligned=3F800000"
+          ∷ []);
     }
     -- "ACDK: retention C-terminal holds D only": D is in column 2
-    ∷ record { given = bits binary64 (cTerminal Retention (ascii "ACDK")); said = whole (0 ∷ 0 ∷ 1 ∷ replicate 19 0) }
-    -- "mobility holds D and K, bulky 1, branched 1, tiny 1, positive 0": K is in column 8, the classes in 91, 88, 89 and 92
+    ∷ record {
+      given = bits binary64 (cTerminal Retention (ascii "ACDK"));
+      said = whole (0 ∷ 0 ∷ 1 ∷ replicate 19 0);
+    }
+    -- "mobility holds D and K, bulky 1, branched 1, tiny 1, positive 0": K is in column 8, the classes in 91, 88, 89
+    -- and 92
     ∷ record {
       given =
           bits binary64
@@ -188,22 +214,29 @@ examples =
           ++ cellsAt Mobility (ascii "ACDK") 88 1
           ++ cellsAt Mobility (ascii "ACDK") 89 1
           ++ cellsAt Mobility (ascii "ACDK") 92 1);
-      said = whole ((0 ∷ 0 ∷ 1 ∷ 0 ∷ 0 ∷ 0 ∷ 0 ∷ 0 ∷ 1 ∷ replicate 13 0) ++ 1 ∷ 1 ∷ 1 ∷ 0 ∷ []);
+      said =
+          whole ((0 ∷ 0 ∷ 1 ∷ 0 ∷ 0 ∷ 0 ∷ 0 ∷ 0 ∷ 1 ∷ replicate 13 0) ++ 1 ∷ 1 ∷ 1 ∷ 0 ∷ []);
     }
     -- "ACD: retention C-terminal total 0, mobility 1"
     ∷ record {
-      given = bits binary64 (total (cTerminal Retention (ascii "ACD")) ∷ total (cTerminal Mobility (ascii "ACD")) ∷ []);
+      given =
+          bits binary64
+          (total (cTerminal Retention (ascii "ACD")) ∷ total (cTerminal Mobility (ascii "ACD")) ∷ []);
       said = whole (0 ∷ 1 ∷ []);
     }
     -- "BJ: count of A is 2", in both models: A is in column 0
-    ∷ record { given = bits binary64 (cellsAt Retention (ascii "BJ") 0 1 ++ cellsAt Mobility (ascii "BJ") 0 1); said = whole (2 ∷ 2 ∷ []) }
+    ∷ record {
+      given = bits binary64 (cellsAt Retention (ascii "BJ") 0 1 ++ cellsAt Mobility (ascii "BJ") 0 1);
+      said = whole (2 ∷ 2 ∷ []);
+    }
     -- "left -1E-8, right 5.0: ridge 1E-8, solution 5.0"
     ∷ record { given = solution 1 (minusTiny ∷ []) (five ∷ []); said = 0 ∷ tiny ∷ five ∷ [] }
     -- "left diagonal (-1, 1), zeros beside: 9"
     ∷ record { given = solution 2 (minusOne ∷ 0 ∷ 0 ∷ one ∷ []) (one ∷ one ∷ []); said = 9 ∷ [] }
     -- "left NaN: 9"
     ∷ record { given = solution 1 (aNaN ∷ []) (one ∷ []); said = 9 ∷ [] }
-    -- the table's numbers for a fit: "accepted", with two training rows; "no training row"; "no ridge solves it", with a row of a NaN
+    -- the table's numbers for a fit: "accepted", with two training rows; "no training row"; "no ridge solves it",
+    -- with a row of a NaN
     ∷ record { given = fit (one ∷ one ∷ []); said = 0 ∷ tiny ∷ 2 ∷ [] }
     ∷ record { given = fit []; said = 8 ∷ [] }
     ∷ record { given = fit (aNaN ∷ []); said = 9 ∷ [] }

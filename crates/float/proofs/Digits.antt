@@ -3,7 +3,22 @@ use mathlib.Core.Path.{_≡_, refl, sym, ap, ap₂, _∙_, subst}
 use mathlib.Core.Bool.{Bool, true, false, _&&_, cond}
 use mathlib.Core.List.{List, [], _∷_}
 use Prim.Native.Nat.{ℕ, zero, suc, _+_, _-_, _*_, _/_, _%_, _^_, _≤_, _<_}
-use native.Mathlib.Nat.{pow-suc, pow-succ', one-le-pow, pow-le-pow-right, lt-of-lt-of-le, mod-one, add-comm, mul-assoc, add-assoc, add-mul, add-mul-div-right, div-div-eq-div-mul, div-add-mod', mod-eq-of-lt}
+use native.Mathlib.Nat.{
+  pow-suc,
+  pow-succ',
+  one-le-pow,
+  pow-le-pow-right,
+  lt-of-lt-of-le,
+  mod-one,
+  add-comm,
+  mul-assoc,
+  add-assoc,
+  add-mul,
+  add-mul-div-right,
+  div-div-eq-div-mul,
+  div-add-mod',
+  mod-eq-of-lt,
+}
 use native.Mathlib.Numerals.{add-one}
 use native.Mathlib.Omega.{arith}
 use lib.Dec.{leb, ltb}

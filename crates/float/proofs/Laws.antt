@@ -2,12 +2,46 @@
 use mathlib.Core.Path.{_≡_, refl, sym, ap, _∙_, subst}
 use mathlib.Core.Bool.{Bool, true, false, not, _&&_, cond}
 use Prim.Native.Nat.{ℕ, zero, suc, _+_, _-_, _*_, _/_, _%_, _^_, _≤_, _<_}
-use native.Mathlib.Nat.{le-trans, lt-of-not-le, not-le-of-lt, mul-one, one-mul, zero-mul, mul-pos, mul-assoc, mul-comm, mul-right-comm, mul-le-mul-right, mul-lt-mul-of-pos-right, lt-of-mul-lt-mul-right}
+use native.Mathlib.Nat.{
+  le-trans,
+  lt-of-not-le,
+  not-le-of-lt,
+  mul-one,
+  one-mul,
+  zero-mul,
+  mul-pos,
+  mul-assoc,
+  mul-comm,
+  mul-right-comm,
+  mul-le-mul-right,
+  mul-lt-mul-of-pos-right,
+  lt-of-mul-lt-mul-right,
+}
 use native.Mathlib.Omega.{arith}
 use lib.IntN.{ℤ, pos, negsuc}
 use lib.Dec.{T, leb, ltb, eqb, leb→le, ltb→lt, eqb→eq}
 use lib.Pow.{pow-add, pow-pos, pow-lt}
-use lib.Ieee.{Float, nan, inf, fin, Format, binary32, prec, emax, low, up, down, size, round, fits, hid, top, ofBits, toBits, nanBits}
+use lib.Ieee.{
+  Float,
+  nan,
+  inf,
+  fin,
+  Format,
+  binary32,
+  prec,
+  emax,
+  low,
+  up,
+  down,
+  size,
+  round,
+  fits,
+  hid,
+  top,
+  ofBits,
+  toBits,
+  nanBits,
+}
 use lib.Ieee.Fits.{up-pos, down-pos, round-fits, nan-fits, inf-fits, and-l, and-r}
 use lib.Ieee.Bits.{ofBits-toBits, toBits-ofBits, nanBits-is}
 use lib.Ieee.Exact.{HasValue, round-exact}

@@ -1,8 +1,42 @@
 -- Rounding a value of 53 digits to binary32, in whole numbers: which digits are kept, and what the pattern is.
 use mathlib.Core.Path.{_≡_, refl, sym, ap, _∙_, subst}
 use mathlib.Core.Logic.{_⊎_, inl, inr}
-use Prim.Native.Nat.{ℕ, zero, suc, _+_, _-_, _*_, _/_, _%_, _^_, _≤_, _<_, min, compare, Ordering, Ordering·lt, Ordering·eq, Ordering·gt}
-use native.Mathlib.Nat.{le-trans, le-of-eq, lt-of-lt-of-le, lt-of-not-le, not-le-of-lt, eq-or-lt-of-le, add-assoc, mul-assoc, mul-le-mul-right, mul-pos, mul-div-cancel, le-div-iff-mul-le, div-lt-iff-lt-mul, div-eq-of-lt, mod-eq-of-lt}
+use Prim.Native.Nat.{
+  ℕ,
+  zero,
+  suc,
+  _+_,
+  _-_,
+  _*_,
+  _/_,
+  _%_,
+  _^_,
+  _≤_,
+  _<_,
+  min,
+  compare,
+  Ordering,
+  Ordering·lt,
+  Ordering·eq,
+  Ordering·gt,
+}
+use native.Mathlib.Nat.{
+  le-trans,
+  le-of-eq,
+  lt-of-lt-of-le,
+  lt-of-not-le,
+  not-le-of-lt,
+  eq-or-lt-of-le,
+  add-assoc,
+  mul-assoc,
+  mul-le-mul-right,
+  mul-pos,
+  mul-div-cancel,
+  le-div-iff-mul-le,
+  div-lt-iff-lt-mul,
+  div-eq-of-lt,
+  mod-eq-of-lt,
+}
 use native.Mathlib.Omega.{arith}
 use mathlib.Core.Bool.{Bool, true, false, not, cond}
 use lib.Dec.{T, ltb, eqb, isLe, isEq, leb→le, nleb→lt, ltb→lt, nltb→le, eqb→eq, eqb-refl, not-T, lit<, lit≤}

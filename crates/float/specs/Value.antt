@@ -10,7 +10,8 @@ isFinite nan = false
 isFinite (inf s) = false
 isFinite (fin s m e) = true
 
--- finite, and of the size of the format's smallest normal value or more, 2 ^ -126 or 2 ^ -1022: not zero and not subnormal
+-- finite, and of the size of the format's smallest normal value or more, 2 ^ -126 or 2 ^ -1022: not zero and not
+-- subnormal
 unfoldable pub isNormal : Format → Float → Bool
 isNormal f nan = false
 isNormal f (inf s) = false

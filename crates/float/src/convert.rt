@@ -32,7 +32,8 @@ pub fn narrow(x: f64) -> f32
 fn narrow_fields(e: u64, t: u64) -> u64
     requires { ⌜ (e < 2048) × (t < 2 ^ 52) × (e ≡ 2047 → t ≡ 0) ⌝ }
     ensures { λ r. ⌜ r ≤ 0x7f80_0000 ⌝ }
-    ensures { λ r. ⌜ ((s : Bool) → toBits binary32 (narrowed (ofFields binary64 s e t)) ≡ cond s 0x8000_0000 0 + r) ⌝ }
+    ensures { λ r. ⌜ ((s : Bool)
+        → toBits binary32 (narrowed (ofFields binary64 s e t)) ≡ cond s 0x8000_0000 0 + r) ⌝ }
 {
     if e < 865 {
         return 0;

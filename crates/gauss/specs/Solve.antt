@@ -1,13 +1,16 @@
 -- What a call of `solve` answers and leaves behind. Definitions only.
 use mathlib.Core.List.{List, [], _∷_}
-use mathlib.Core.Bool.{Bool, true, false, _&&_}
+use mathlib.Core.Bool.{_&&_}
 use mathlib.Core.Path.{_≡_}
-use Prim.Native.Nat.{ℕ, zero, suc, _+_, _*_, _≤_}
+use Prim.Native.Nat.{ℕ, _+_, _*_, _≤_}
 use lib.ListN.{length, replicate}
 use lib.Dec.{leb, eqb}
-use lib.Ieee.{Float, nan}
+use lib.Ieee.{Float}
 use denote.Ref.{now}
 use Rattle.params.specs.Slice.{Held, Change, change, Slice}
+use Rattle.status.specs.Status.{badLengths, pastLimit, tooShort, notSolved, firstFailing}
+use Rattle.status.specs.Limits.{withinSystemLimits, maxOrder, maxColumns}
+use Rattle.status.specs.Told.{Told, gives, only, ifAccepted, toldFor}
 use Rattle.matrix.specs.Rows.{rowsOf}
 use Rattle.float.specs.Number.{zero64}
 use Rattle.matrix.specs.Lists.{overwritten}
@@ -42,21 +45,10 @@ abbrev pub systemOf : (left right : Slice Float) (n c : ℕ) → System
 systemOf left right n c = systemAt (left .entry) (right .entry) n c
 
 abbrev pub slicesOf : (workspace solution : Slice Float) → Change Slices
-slicesOf workspace solution = change (slicesAt (workspace .entry) (solution .entry)) (slicesAt (workspace .exit) (solution .exit))
+slicesOf workspace solution =
+    change (slicesAt (workspace .entry) (solution .entry)) (slicesAt (workspace .exit) (solution .exit))
 
--- ---- the answer
-
--- the number of document 01's table for each answer
-abbrev pub statusOf : SolveAnswer → ℕ
-statusOf (Solved ridge) = 0
-statusOf Unsolved = 9
-statusOf (Refused status) = status
-
--- the ridge of each answer
-abbrev pub ridgeOf : SolveAnswer → List Float
-ridgeOf (Solved ridge) = ridge ∷ []
-ridgeOf Unsolved = []
-ridgeOf (Refused status) = []
+-- ---- the checks
 
 -- the cells of the right side, and the needed workspace
 abbrev pub outputs : ℕ → ℕ → ℕ
@@ -65,84 +57,78 @@ outputs n c = n * c
 abbrev pub needed : ℕ → ℕ → ℕ
 needed n c = n * n + n * c
 
--- the first of the checks that fails, by its number, or 0
-abbrev pub firstFailed : Bool → Bool → Bool → ℕ
-firstFailed false limits room = 1
-firstFailed true false room = 2
-firstFailed true true false = 3
-firstFailed true true true = 0
+-- 1, 2, 3: from the lengths of the sides, the order n, the number of right columns c and the lengths of the slices
+abbrev pub statusBy : (left right n c workspace solution : ℕ) → ℕ
+statusBy left right n c workspace solution =
+    firstFailing
+    ((badLengths, eqb left (n * n) && eqb right (n * c))
+    ∷ (pastLimit, withinSystemLimits n c)
+    ∷ (tooShort, leb (needed n c) workspace && leb (outputs n c) solution)
+    ∷ [])
 
--- from the order n, the number of right columns c and the slices' lengths
-abbrev pub checked : ℕ → ℕ → ℕ → ℕ → ℕ → ℕ → ℕ
-checked left right n c workspace solution =
-    firstFailed
-    (eqb left (n * n) && eqb right (n * c))
-    (leb 1 n && leb n 100 && leb 1 c && leb c 8)
-    (leb (needed n c) workspace && leb (outputs n c) solution)
+abbrev pub status : System → Slices → ℕ
+status i s =
+    statusBy (length (i .left)) (length (i .right)) (i .n) (i .c) (length (s .workspace)) (length (s .solution))
+
+-- ---- the answer
+
+-- what every case of it tells: a solved system has its ridge
+abbrev pub toldBy : SolveAnswer → Told Float
+toldBy (Solved ridge) = gives ridge
+toldBy Unsolved = only notSolved
+toldBy (Refused n) = only n
 
 -- the system's solution
 unfoldable pub solutionOf : ℕ → ℕ → List Float → List Float → Solution
 solutionOf n c left right = firstSolved n (augmented (rowsOf n n left) (rowsOf c n right)) ridges
 
--- of an accepted call (0), or of one refused
-abbrev pub answerOf : ℕ → Solution → SolveAnswer
-answerOf zero (solved ridge cells) = Solved ridge
-answerOf zero unsolved = Unsolved
-answerOf (suc k) s = Refused (suc k)
-
--- the needed cells +0.0 and the others as they were; a refused call changes none
-abbrev pub workspaceAfter : ℕ → ℕ → List Float → List Float
-workspaceAfter zero count held = overwritten (replicate count zero64) held
-workspaceAfter (suc k) count held = held
-
--- the solution's cells and then those beyond as they were; only a solved system changes any
-abbrev pub solutionAfter : ℕ → Solution → List Float → List Float
-solutionAfter zero (solved ridge cells) held = overwritten cells held
-solutionAfter zero unsolved held = held
-solutionAfter (suc k) s held = held
-
--- the number for each outcome: that of the check that failed, else 0 for a solution and 9 for none
-abbrev pub statusFor : ℕ → Solution → ℕ
-statusFor zero (solved ridge cells) = 0
-statusFor zero unsolved = 9
-statusFor (suc k) s = suc k
-
--- the ridge for each outcome, which only a solution has
-abbrev pub ridgeFor : ℕ → Solution → List Float
-ridgeFor zero (solved ridge cells) = ridge ∷ []
-ridgeFor zero unsolved = []
-ridgeFor (suc k) s = []
-
--- ---- the contract of `solve`
-
--- the check that fails, by its number, or 0
-abbrev pub status : System → Slices → ℕ
-status i s = checked (length (i .left)) (length (i .right)) (i .n) (i .c) (length (s .workspace)) (length (s .solution))
-
 abbrev pub solutionFor : System → Solution
 solutionFor i = solutionOf (i .n) (i .c) (i .left) (i .right)
 
--- what a call leaves
-abbrev pub slicesAfter : System → Slices → Slices
-slicesAfter i s =
+-- what an accepted call answers, and tells
+abbrev pub answerBy : Solution → SolveAnswer
+answerBy (solved ridge cells) = Solved ridge
+answerBy unsolved = Unsolved
+
+abbrev pub solutionTold : Solution → Told Float
+solutionTold (solved ridge cells) = gives ridge
+solutionTold unsolved = only notSolved
+
+-- what a call with a status answers
+abbrev pub answerOf : (status : ℕ) → Solution → SolveAnswer
+answerOf status x = ifAccepted status (answerBy x) (Refused status)
+
+-- ---- the slices
+
+-- the solution's cells and then those beyond as they were; only a solution changes any
+abbrev pub solutionOver : Solution → List Float → List Float
+solutionOver (solved ridge cells) held = overwritten cells held
+solutionOver unsolved held = held
+
+-- what an accepted call leaves: the needed workspace +0.0
+abbrev pub filled : System → Slices → Slices
+filled i s =
     record {
-      workspace = workspaceAfter (status i s) (needed (i .n) (i .c)) (s .workspace);
-      solution = solutionAfter (status i s) (solutionFor i) (s .solution);
+      workspace = overwritten (replicate (needed (i .n) (i .c)) zero64) (s .workspace);
+      solution = solutionOver (solutionFor i) (s .solution);
     }
 
--- the answer, its number and its ridge, and both slices, each cell of them
+-- what a call leaves: a refused one both slices as they were
+abbrev pub slicesAfter : System → Slices → Slices
+slicesAfter i s = ifAccepted (status i s) (filled i s) s
+
+-- The contract of `solve`: the answer, what it tells, and both slices, each cell of them.
 pub record Solves (i : System) (s : Change Slices) (r : SolveAnswer) : Type 0 where
   pub answer : r ≡ answerOf (status i (s .entry)) (solutionFor i)
-  pub number : statusOf r ≡ statusFor (status i (s .entry)) (solutionFor i)
-  pub ridge : ridgeOf r ≡ ridgeFor (status i (s .entry)) (solutionFor i)
+  pub told : toldBy r ≡ toldFor (status i (s .entry)) (solutionTold (solutionFor i))
   pub slices : s .exit ≡ slicesAfter i (s .entry)
 
--- ---- of what stands behind it
+-- ---- what stands behind it
 
 -- sides and slices of the right lengths, within the limits
 pub record Accepted (i : System) (s : Slices) : Type 0 where
-  pub order : i .n ≤ 100
-  pub columns : i .c ≤ 8
+  pub order : i .n ≤ maxOrder
+  pub columns : i .c ≤ maxColumns
   pub leftCount : length (i .left) ≡ i .n * i .n
   pub rightCount : length (i .right) ≡ i .n * i .c
   pub cellCount : length (s .workspace) ≡ i .n * (i .n + i .c)
@@ -150,6 +136,6 @@ pub record Accepted (i : System) (s : Slices) : Type 0 where
 
 -- the first ridge that solves it is the answer, the workspace ends as +0.0
 pub record Searched (i : System) (s : Change Slices) (r : SolveAnswer) : Type 0 where
-  pub answer : r ≡ answerOf 0 (solutionFor i)
+  pub answer : r ≡ answerBy (solutionFor i)
   pub cells : s .exit .workspace ≡ replicate (length (s .entry .workspace)) zero64
   pub solution : s .exit .solution ≡ written (solutionFor i) (s .entry .solution)

@@ -1,16 +1,18 @@
 // Gauss::solve of gauss.rs: Gauss-Jordan elimination with a rising ridge.
 ghost use Rattle.gauss.specs.Solve.{systemAt, systemOf, slicesAt, slicesOf, Solves, Accepted, Searched};
 
-mod limits;
+mod checks; // the checks, in document 01's order
 
-// What a call of `solve` answers: the ridge that solved the system, that none did, or that the call is refused with this status.
+// What a call of `solve` answers: the ridge that solved the system, that none did, or that the call is refused with
+// this status.
 pub enum SolveAnswer {
     Solved(f64),
     Unsolved,
     Refused(u8),
 }
 
-// The first ridge that solves the system; the solution is written only then. `cells` is the needed workspace and ends as +0.0.
+// The first ridge that solves the system; the solution is written only then. `cells` is the needed workspace and ends
+// as +0.0.
 fn first_solved(
     left: &[f64],
     right: &[f64],
@@ -36,8 +38,9 @@ fn first_solved(
     SolveAnswer::Unsolved
 }
 
-// Solves left · x = right, left n rows of n cells and right n rows of c. Once the checks have passed, the first n * n + n * c cells of
-// `workspace` end as +0.0. `solution` gets the n * c cells of x if a ridge solves the system, and keeps what it held otherwise.
+// Solves left · x = right, left n rows of n cells and right n rows of c. Once the checks have passed, the first n *
+// n + n * c cells of `workspace` end as +0.0. `solution` gets the n * c cells of x if a ridge solves the system, and
+// keeps what it held otherwise.
 pub fn solve(
     left: &[f64],
     right: &[f64],
@@ -48,7 +51,7 @@ pub fn solve(
 ) -> SolveAnswer
     ensures { λ r. ⌜ Solves (systemOf left right n c) (slicesOf workspace solution) r ⌝ }
 {
-    let status = limits::check(
+    let status = checks::check(
         left.len(),
         right.len(),
         n,
@@ -56,7 +59,7 @@ pub fn solve(
         workspace.len(),
         solution.len(),
     );
-    if status != 0 {
+    if status != status::ACCEPTED {
         return SolveAnswer::Refused(status);
     }
     let outputs = n * c;

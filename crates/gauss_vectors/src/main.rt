@@ -1,6 +1,6 @@
-// Replays stored answers of the Rust's `Gauss::solve`. Standard input is the number of systems, then for each its order, its number of
-// right columns, and the cells of its left and its right side. Standard output is 9 for each that no ridge solves, else 0, the ridge and
-// the solution's cells.
+// Replays stored answers of the Rust's `Gauss::solve`. Standard input is the number of systems, then for each its
+// order, its number of right columns, and the cells of its left and its right side. Standard output is 9 for each
+// that no ridge solves, else 0, the ridge and the solution's cells.
 ghost use mathlib.Core.Path.{_≡_};
 ghost use lib.ListN.{length};
 ghost use Prim.Native.Nat.{_+_, _*_, _<_, _≤_};
@@ -29,8 +29,8 @@ fn cells(n: usize, c: usize) -> usize
     n * c
 }
 
-// Cells for a left side, for a right side or a solution, and for the workspace. Each `ensures` gives only the length, which lending a
-// part needs.
+// Cells for a left side, for a right side or a solution, and for the workspace. Each `ensures` gives only the length,
+// which lending a part needs.
 fn left_cells() -> [f64; 10000]
     ensures { λ r. ⌜ 10000 ≡ length r ⌝ }
 {
@@ -62,7 +62,8 @@ fn report(answer: SolveAnswer, solution: &[f64]) {
     }
 }
 
-// Answers one system of order n with c right columns, and says whether its cells were all there. The parts are those of the program's arrays.
+// Answers one system of order n with c right columns, and says whether its cells were all there. The parts are those
+// of the program's arrays.
 fn solve(
     left: &mut [f64],
     right: &mut [f64],

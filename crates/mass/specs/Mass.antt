@@ -8,7 +8,9 @@ use Rattle.mass.specs.declared.Residue.the-variants.{Letter, Outside}
 
 -- the bytes of ACDEFGHIKLMNPQRSTVWYUO
 unfoldable pub validAa : List ℕ
-validAa = 65 ∷ 67 ∷ 68 ∷ 69 ∷ 70 ∷ 71 ∷ 72 ∷ 73 ∷ 75 ∷ 76 ∷ 77 ∷ 78 ∷ 80 ∷ 81 ∷ 82 ∷ 83 ∷ 84 ∷ 86 ∷ 87 ∷ 89 ∷ 85 ∷ 79 ∷ []
+validAa =
+    65 ∷ 67 ∷ 68 ∷ 69 ∷ 70 ∷ 71 ∷ 72 ∷ 73 ∷ 75 ∷ 76 ∷ 77
+    ∷ 78 ∷ 80 ∷ 81 ∷ 82 ∷ 83 ∷ 84 ∷ 86 ∷ 87 ∷ 89 ∷ 85 ∷ 79 ∷ []
 
 -- the first place, counted from i, where b stands in a list; 0 where it stands nowhere in it
 unfoldable pub placeFrom : ℕ → ℕ → List ℕ → ℕ

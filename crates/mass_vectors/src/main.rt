@@ -1,4 +1,5 @@
-// Replays stored answers of the Rust for the functions of `mass`: 01 is the column of a letter from A to Z, 02 the residue of a column.
+// Replays stored answers of the Rust for the functions of `mass`: 01 is the column of a letter from A to Z, 02 the
+// residue of a column.
 use mass::Residue;
 use vectors::Next;
 use vectors::Record;

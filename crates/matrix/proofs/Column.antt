@@ -1,5 +1,5 @@
--- The column cursor, step by step: in a matrix that the list holds whole, its steps give the column's cells from the top down, and then the
--- end.
+-- The column cursor, step by step: in a matrix that the list holds whole, its steps give the column's cells from the
+-- top down, and then the end.
 use mathlib.Core.Path.{_≡_, _∙_}
 use mathlib.Core.List.{List, []}
 use Prim.Native.Nat.{ℕ, _+_, _*_, _^_, _≤_, _<_, min}

@@ -1,13 +1,59 @@
--- Laws of the rows of a flat list, for any cells: lengths, a row, a cell, a part written back, and two lists that agree in every cell.
--- A part that was lent as `&mut cells[a..e]` comes back as `put a (e - a) part cells`.
+-- Laws of the rows of a flat list, for any cells: lengths, a row, a cell, a part written back, and two lists that
+-- agree in every cell. A part that was lent as `&mut cells[a..e]` comes back as `put a (e - a) part cells`.
 use mathlib.Core.Path.{_≡_, refl, sym, ap, _∙_}
 use mathlib.Core.Logic.{⊎-elim}
 use mathlib.Core.List.{List, [], _∷_, _++_, map, append-assoc, append-nil}
 use Prim.Native.Nat.{ℕ, zero, suc, _+_, _-_, _*_, _/_, _%_, _^_, _≤_, _<_}
-use native.Mathlib.Nat.{le-of-suc-le-suc, not-suc-le-zero, zero-mul, mul-zero, eq-zero-or-pos, suc-add, zero-add, add-zero, mul-le-mul-right, mod-lt, div-add-mod', div-lt-iff-lt-mul, mul-add-div-right, div-eq-of-lt, add-left-cancel}
+use native.Mathlib.Nat.{
+  le-of-suc-le-suc,
+  not-suc-le-zero,
+  zero-mul,
+  mul-zero,
+  eq-zero-or-pos,
+  suc-add,
+  zero-add,
+  add-zero,
+  mul-le-mul-right,
+  mod-lt,
+  div-add-mod',
+  div-lt-iff-lt-mul,
+  mul-add-div-right,
+  div-eq-of-lt,
+  add-left-cancel,
+}
 use native.Mathlib.Omega.{arith}
-use lib.ListN.{length, getD, set, take, drop, length-append, length-take, length-drop, take-append-drop, drop-of-length-le, replicate}
-use lib.Seq.{take-nil, length-take-le, take-all, take-at, drop-at, take-append-le, drop-append-le, take-add, drop-drop, take-take, getD-take, getD-drop, take-set-lt, drop-set-lt, take-set-le, drop-set-add, ext-getD}
+use lib.ListN.{
+  length,
+  getD,
+  set,
+  take,
+  drop,
+  length-append,
+  length-take,
+  length-drop,
+  take-append-drop,
+  drop-of-length-le,
+  replicate,
+}
+use lib.Seq.{
+  take-nil,
+  length-take-le,
+  take-all,
+  take-at,
+  drop-at,
+  take-append-le,
+  drop-append-le,
+  take-add,
+  drop-drop,
+  take-take,
+  getD-take,
+  getD-drop,
+  take-set-lt,
+  drop-set-lt,
+  take-set-le,
+  drop-set-add,
+  ext-getD,
+}
 use Rattle.matrix.specs.Rows.{placeOf, rowAt, rowsOf, flat, swapped}
 
 -- ---- places

@@ -1,11 +1,21 @@
--- Laws of lists, for any elements: a table, a list made anew from one beside it, one written over another, two zipped, and one element again
--- and again.
+-- Laws of lists, for any elements: a table, a list made anew from one beside it, one written over another, two
+-- zipped, and one element again and again.
 use mathlib.Core.Path.{_≡_, refl, sym, ap, _∙_}
 use mathlib.Core.List.{List, [], _∷_, _++_, map, zip, zipWith, append-assoc, append-nil}
 use Prim.Native.Nat.{ℕ, zero, suc, _*_, _≤_, _<_, zero-le, suc-le-suc}
 use native.Mathlib.Nat.{le-of-suc-le-suc, not-suc-le-zero, zero-mul, suc-mul, add-comm}
 use native.Mathlib.Omega.{arith}
-use lib.ListN.{length, getD, set, take, drop, replicate, take-append-drop, drop-of-length-le, replicate-append-replicate}
+use lib.ListN.{
+  length,
+  getD,
+  set,
+  take,
+  drop,
+  replicate,
+  take-append-drop,
+  drop-of-length-le,
+  replicate-append-replicate,
+}
 use lib.Seq.{take-length, length-take-le, drop-append-le}
 use Rattle.matrix.specs.Rows.{flat}
 use Rattle.matrix.specs.Lists.{tabulate, zipped, overwritten}

@@ -12,11 +12,13 @@ use Rattle.matrix.specs.declared.Col.{Col}
 use Rattle.matrix.specs.declared.ColStep.{ColStep}
 use Rattle.matrix.specs.declared.ColStep.the-variants.{Value as Next, Done}
 
--- The cell in that row and column, where the matrix has both and the list reaches that far. Places are numbers of 32 bits: a cell further
--- on is outside.
+-- The cell in that row and column, where the matrix has both and the list reaches that far. Places are numbers of 32
+-- bits: a cell further on is outside.
 abbrev pub cellOf : (rows cols row col : ℕ) → List Float → Cell
 cellOf rows cols row col cells =
-    cond (ltb row rows && ltb col cols && ltb (placeOf cols row col) (min (length cells) (2 ^ 32))) (Value (getD cells (placeOf cols row col) nan)) Outside
+    cond (ltb row rows && ltb col cols && ltb (placeOf cols row col) (min (length cells) (2 ^ 32)))
+    (Value (getD cells (placeOf cols row col) nan))
+    Outside
 
 -- what a step gives where the read found this: the cell and the cursor one row further down
 abbrev pub stepped : Col → Cell → ColStep

@@ -1,5 +1,5 @@
--- Lists that the definitions of several crates are made of: a table, a list made anew from one beside it, and one written over another. For any
--- elements. Definitions only.
+-- Lists that the definitions of several crates are made of: a table, a list made anew from one beside it, and one
+-- written over another. For any elements. Definitions only.
 use Prim.Native.Nat.{ℕ, zero, suc}
 use mathlib.Core.List.{List, [], _∷_, _++_}
 use lib.ListN.{length, drop}

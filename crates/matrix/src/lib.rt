@@ -1,5 +1,5 @@
-// Matrices that lie row by row in a slice, after sage's matrix.rs: the place of a cell, a row as a part, a checked read, two rows
-// exchanged, and the column cursor. A place is always worked out in 32 bits.
+// Matrices that lie row by row in a slice, after sage's matrix.rs: the place of a cell, a row as a part, a checked
+// read, two rows exchanged, and the column cursor. A place is always worked out in 32 bits.
 ghost use mathlib.Core.Path.{_≡_};
 ghost use Prim.Native.Nat.{_+_, _*_, _^_, _≤_, _<_};
 ghost use lib.ListN.{length, replicate};
@@ -12,8 +12,8 @@ pub struct PeptideIx(pub u32);
 
 pub struct FileIx(pub u32);
 
-// The place of a peptide's cell for a file, in a matrix with a column for each file. For the crates above: within the limits of document 01
-// the place is below 2^24.
+// The place of a peptide's cell for a file, in a matrix with a column for each file. For the crates above: within the
+// limits of document 01 the place is below 2^24.
 pub fn place(row: PeptideIx, col: FileIx, files: u32) -> usize
     requires { ⌜ row .0 * files + col .0 < 2 ^ 32 ⌝ }
     ensures { λ r. ⌜ r ≡ placeOf files (row .0) (col .0) ⌝ }
@@ -37,8 +37,9 @@ pub enum Cell {
     Outside,
 }
 
-// The cell in a row and a column of a matrix of rows × cols cells (Rust's Matrix::get), for any numbers: outside where the matrix has no such
-// row or column or the slice ends before it. A cell whose place does not fit 32 bits is outside too.
+// The cell in a row and a column of a matrix of rows × cols cells (Rust's Matrix::get), for any numbers: outside
+// where the matrix has no such row or column or the slice ends before it. A cell whose place does not fit 32 bits is
+// outside too.
 pub fn get(cells: &[f64], rows: u32, cols: u32, row: u32, col: u32) -> Cell
     ensures { λ r. ⌜ r ≡ cellOf rows cols row col (now (cells .entry)) ⌝ }
 {
@@ -93,7 +94,8 @@ impl Col {
     }
 }
 
-// Exchanges rows i and j of a matrix of rows × cols cells (gauss.rs's swap_rows). For the elimination, which knows that the rows are there.
+// Exchanges rows i and j of a matrix of rows × cols cells (gauss.rs's swap_rows). For the elimination, which knows
+// that the rows are there.
 pub fn swap_rows(cells: &mut [f64], rows: u32, cols: u32, i: u32, j: u32)
     requires { ⌜ (length (now cells) ≡ rows * cols) × (rows * cols < 2 ^ 32) × (i < rows) × (j < rows) ⌝ }
     ensures { λ _. ⌜ now (cells .exit) ≡ flat (swapped i j (rowsOf cols rows (now (cells .entry)))) ⌝ }

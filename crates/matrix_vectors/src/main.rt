@@ -1,4 +1,5 @@
-// Replays stored answers of the Rust's `Matrix::get`: a row, a column and a shape, for a matrix whose cells hold their own places.
+// Replays stored answers of the Rust's `Matrix::get`: a row, a column and a shape, for a matrix whose cells hold
+// their own places.
 use matrix::Cell;
 use vectors::Next;
 
@@ -39,8 +40,8 @@ fn replay(cells: &[f64; 1024]) -> bool {
     true
 }
 
-// Each cell holds the number of its place. A proved loop has to end, and nothing says that the input does: so the turns are counted down
-// from a number that no run uses up.
+// Each cell holds the number of its place. A proved loop has to end, and nothing says that the input does: so the
+// turns are counted down from a number that no run uses up.
 fn main() {
     let mut cells = [0.0f64; 1024];
     let mut i = 0u32;

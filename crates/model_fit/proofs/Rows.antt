@@ -1,5 +1,5 @@
--- Laws of the rows: the query and the sample of a row by its columns, and the samples of the training rows among the first so many rows, as the
--- loops go through them.
+-- Laws of the rows: the query and the sample of a row by its columns and by its peptide's, and the samples of the
+-- training rows among the first so many rows, as the loops go through them.
 use mathlib.Core.Path.{_≡_, refl, sym, ap, _∙_}
 use mathlib.Core.Bool.{Bool, true, false, cond}
 use mathlib.Core.List.{List, [], _∷_, _++_, map, headD, tail, append-nil}
@@ -7,23 +7,26 @@ use Prim.Native.Nat.{ℕ, zero, suc, _≤_, _<_}
 use native.Mathlib.Nat.{le-of-suc-le-suc, not-suc-le-zero}
 use native.Mathlib.Omega.{arith}
 use lib.IntN.{pos}
-use lib.Ieee.{nan}
+use lib.Ieee.{Float, nan}
 use lib.ListN.{length, getD, take, length-take}
 use lib.Seq.{take-all}
+use Rattle.status.specs.Limits.{maxOrder, maxLetters}
+use Rattle.peptide.specs.Table.{Table, sequenceOf}
+use Rattle.peptide.proofs.Laws.{sequence-short}
 use Rattle.feature.specs.Feature.{trains, mask, kept}
 use Rattle.feature.proofs.Training.{length-kept, length-mask, mask-at}
-use Rattle.embedding.specs.Design.{orderOf}
+use Rattle.embedding.specs.Design.{orderOf, design}
 use Rattle.embedding.specs.declared.Model.{Model}
 use Rattle.embedding.specs.declared.Model.the-variants.{Retention, Mobility}
 use Rattle.regression.specs.Regression.{Sample}
 use Rattle.model_fit.specs.Input.{Input, Query, queryOf, queries}
-use Rattle.model_fit.specs.Samples.{sampleOf, samples, trainingSamples}
-use Rattle.model_fit.specs.Shared.{Checked}
+use Rattle.model_fit.specs.Samples.{designOf, sampleOf, samples, trainingSamples}
+use Rattle.model_fit.specs.Shared.{Listed, Checked}
 use Rattle.matrix.proofs.Lists.{length-zipWith, getD-zipWith}
 use Rattle.model_fit.proofs.Laws.{kept-suc}
 
--- a design row has at most 100 columns
-pub order-max : (model : Model) → orderOf model ≤ 100
+-- a design row has at most as many columns as a system may have
+pub order-max : (model : Model) → orderOf model ≤ maxOrder
 order-max Retention = omega arith
 order-max Mobility = omega arith
 
@@ -52,6 +55,19 @@ pub queries-bare : {R : Type 0} (peptide : R → ℕ) (rows : List R) → querie
 unfolding queries headD
 queries-bare peptide [] = refl
 queries-bare peptide (r ∷ rows) = ap (λ (t : List Query). queryOf (peptide r) 0 ∷ t) (queries-bare peptide rows)
+
+-- ---- a peptide that is looked up
+
+module _ (t : Table) (p : ℕ) (letters : List ℕ) (is-sequence : letters ≡ sequenceOf (t .letters) (t .offsets) p) where
+  pub looked-short : Listed t p → length letters ≤ maxLetters
+  looked-short h = omega (arith, ap length is-sequence, sequence-short (t .letters) (t .offsets) p (h .has))
+
+  -- its design row
+  pub looked-up : (model : Model) (z z₁ : ℕ) (log mass : Float) → log ≡ getD (t .logs) p nan
+      → mass ≡ getD (t .masses) p nan
+      → z ≡ z₁
+      → design model letters log mass z ≡ designOf model t (queryOf p z₁)
+  looked-up model z z₁ log mass is-log is-mass e = rw (is-sequence, is-log, is-mass, e)
 
 -- ---- samples
 

@@ -15,7 +15,7 @@ use Rattle.peptide.specs.Table.{Table, tableStatus}
 use Rattle.peptide.proofs.Laws.{table-first, offsets-peptide}
 use Rattle.embedding.specs.declared.Model.{Model}
 use Rattle.embedding.specs.declared.Model.the-variants.{Retention, Mobility}
-use Rattle.model_fit.specs.Input.{Input, columnsAgree, lengthsRight, checks, statusOf}
+use Rattle.model_fit.specs.Input.{Input, columnsAgree, lengthsRight, checks, statusBy}
 use Rattle.model_fit.specs.Shared.{Listed, Numbered, Checked}
 
 -- the status where the checks and the table's status have these values; a call of a model has no files
@@ -24,8 +24,10 @@ pub status-is : (model : Model) (i : Input) (room : Bool) (a b : Bool) (t : ℕ)
     → b ≡ withinRowLimits (length (i .peptides)) (length (i .table .masses))
     → t ≡ tableStatus (i .table .letters) (i .table .offsets) (length (i .table .masses))
     → f ≡ allBelow (length (i .table .masses)) (i .peptides)
-    → firstFailing ((badLengths, a) ∷ (pastLimit, b) ∷ (tooShort, room) ∷ (t, eqb t accepted) ∷ (badFile, true) ∷ (badPeptide, f) ∷ []) ≡ statusOf model i room
-unfolding statusOf
+    → firstFailing
+    ((badLengths, a) ∷ (pastLimit, b) ∷ (tooShort, room) ∷ (t, eqb t accepted) ∷ (badFile, true) ∷ (badPeptide, f) ∷ [])
+    ≡ statusBy model i room
+unfolding statusBy
 status-is model i room a b t f one two table five =
     rw (one, two, table, five, table-first (i .table .letters) (i .table .offsets) (length (i .table .masses)) ((badPeptide, allBelow (length (i .table .masses)) (i .peptides)) ∷ []))
 
@@ -48,9 +50,9 @@ long Mobility i e =
     record { labels = length-at n ls 0 e (omega arith); qs = length-at n ls 1 e (omega arith); observed = length-at n ls 3 e (omega arith) }
 
 -- an accepted call has passed all checks
-module _ (model : Model) (i : Input) (room : Bool) (accept : statusOf model i room ≡ accepted) where
+module _ (model : Model) (i : Input) (room : Bool) (accept : statusBy model i room ≡ accepted) where
   check-at : (k : ℕ) → k < 6 → getD (checks model i room) k (0, true) .1 ≡ true
-  unfolding statusOf every
+  unfolding statusBy every
   check-at k h = passed-at (checks model i room) k refl accept h
 
   pub accepted-room : room ≡ true

@@ -16,8 +16,11 @@ designOf model t q =
     design model (sequenceOf (t .letters) (t .offsets) p) (getD (t .logs) p nan) (getD (t .masses) p nan) (q .charge)
 
 -- a row's sample: its design row and what was observed
+abbrev pub sampleFrom : (design : List Float) (y : Float) → Sample
+sampleFrom design y = record { row = design; y = y }
+
 abbrev pub sampleOf : Model → Table → Query → Float → Sample
-sampleOf model t q y = record { row = designOf model t q; y = y }
+sampleOf model t q y = sampleFrom (designOf model t q) y
 
 -- of all rows, and of the rows that train, in order
 abbrev pub samples : Model → Input → List Sample
@@ -26,6 +29,6 @@ samples model i = zipWith (sampleOf model (i .table)) (queries (i .peptides) (i 
 abbrev pub trainingSamples : Model → Input → List Sample
 trainingSamples model i = kept (mask (i .labels) (i .qs)) (samples model i)
 
--- the fit; its coefficients are none where it is not solved
-abbrev pub fitOn : Model → Input → Fit
-fitOn model i = fitOf (orderOf model) (trainingSamples model i)
+-- the fit to them; its coefficients are none where it is not solved
+abbrev pub fitOfInput : Model → Input → Fit
+fitOfInput model i = fitOf (orderOf model) (trainingSamples model i)

@@ -4,9 +4,8 @@ use mathlib.Core.Bool.{Bool, true, false}
 use mathlib.Core.List.{List, [], _∷_, _++_}
 use Prim.Native.Nat.{ℕ, _+_, _≤_, _<_}
 use lib.Ieee.{Float}
-use lib.ListN.{length, replicate, take, drop}
-use Rattle.float.specs.Number.{zero64}
-use Rattle.matrix.specs.Rows.{flat}
+use lib.ListN.{length, take, drop}
+use Rattle.params.specs.Slice.{Change}
 use Rattle.matrix.specs.Lists.{overwritten}
 use Rattle.status.specs.Checks.{allBelow}
 use Rattle.status.specs.Limits.{maxRows}
@@ -14,6 +13,7 @@ use Rattle.peptide.specs.Table.{Table, HasPeptide, offsetsRight}
 use Rattle.embedding.specs.Design.{orderOf}
 use Rattle.embedding.specs.declared.Model.{Model}
 use Rattle.regression.specs.Regression.{Fit, Sample, extended, normal, sumsOf, dot}
+use Rattle.regression.specs.Workspace.{cleared, holding, FitSlices}
 use Rattle.regression.specs.declared.Sums.{Sums}
 use Rattle.regression.specs.declared.FitOutcome.{FitOutcome}
 use Rattle.regression.specs.declared.FitOutcome.the-variants.{Solved}
@@ -43,29 +43,30 @@ pub record PeptidePredicted (D : ℕ) (design beta row₀ row₁ : List Float) (
   pub prediction : r ≡ dot design beta
   pub row : row₁ ≡ design ++ drop D row₀
 
--- the normal equations of all samples but the last, which is held back in a row
-pub record HeldBack (D : ℕ) (row equations : List Float) (ss : List Sample) : Type 0 where
+-- a workspace holds the normal equations of all samples but the last, which is held back in a row
+pub record HeldBack (D : ℕ) (row workspace : List Float) (ss : List Sample) : Type 0 where
   pub earlier : List Sample
   pub last : Sample
   pub all : ss ≡ earlier ++ last ∷ []
-  pub summed : equations ≡ flat (normal D earlier)
+  pub summed : workspace ≡ holding D (normal D earlier)
   pub held : take (D + 1) row ≡ extended last
   pub wide : length (last .row) ≡ D
 
--- the normal equations of some samples, with the last one summed or held back
-abbrev pub Summed : ℕ → (held : Bool) → (row equations : List Float) → List Sample → Type 0
-Summed D false row equations ss = equations ≡ flat (normal D ss)
-Summed D true row equations ss = HeldBack D row equations ss
+-- it holds those of some samples, with the last one summed or held back
+abbrev pub Summed : ℕ → (held : Bool) → (row workspace : List Float) → List Sample → Type 0
+Summed D false row workspace ss = workspace ≡ holding D (normal D ss)
+Summed D true row workspace ss = HeldBack D row workspace ss
 
 -- the normal equations and the sums of the training rows
-pub record Accumulated (model : Model) (i : Input) (acc : List Float) (r : Sums) : Type 0 where
-  pub equations : acc ≡ flat (normal (orderOf model) (trainingSamples model i))
+pub record Accumulated (model : Model) (i : Input) (workspace : List Float) (r : Sums) : Type 0 where
+  pub holds : workspace ≡ holding (orderOf model) (normal (orderOf model) (trainingSamples model i))
   pub sums : r ≡ sumsOf (trainingSamples model i)
 
 -- a fit on a workspace and a coefficient list of just the needed cells
-pub record FittedBy (fit : Fit) (workspace₀ workspace₁ beta₀ beta₁ : List Float) (r : FitOutcome) : Type 0 where
+pub record FittedBy (fit : Fit) (s : Change FitSlices) (r : FitOutcome) : Type 0 where
   pub outcome : r ≡ fit .outcome
-  pub workspace : workspace₁ ≡ replicate (length workspace₀) zero64
-  pub beta : beta₁ ≡ overwritten (fit .beta) beta₀
+  pub workspace : s .exit .workspace ≡ cleared (s .entry .workspace)
+  pub coefficients : s .exit .coefficients ≡ overwritten (fit .coefficients) (s .entry .coefficients)
   -- a fit that is solved has a coefficient for each of them
-  pub long : (ridge r2 : Float) (n : ℕ) → r ≡ Solved ridge r2 n → length (fit .beta) ≡ length beta₀
+  pub long : (ridge r2 : Float) (n : ℕ) → r ≡ Solved ridge r2 n
+      → length (fit .coefficients) ≡ length (s .entry .coefficients)

@@ -1,27 +1,17 @@
 // The checks of a call, in document 01's order, for both models and for fits and predictions.
 ghost use mathlib.Core.Path.{_≡_};
-ghost use Rattle.embedding.specs.Design.{orderOf};
-ghost use Rattle.model_fit.specs.Input.{inputOf, columnsAgree, fitRoom, workspaceCells, statusOf};
+ghost use Rattle.model_fit.specs.Input.{modelInput, columnsAgree, fitRoom, statusBy};
 use embedding::Model;
-
-// The cells of a fit's workspace (document 01's work room).
-pub fn workspace_cells(model: Model) -> usize
-    ensures { λ r. ⌜ r ≡ workspaceCells (orderOf model) ⌝ }
-{
-    match model {
-        Model::Retention => 9660,
-        Model::Mobility => 20200,
-    }
-}
 
 // Whether a workspace and a coefficient list of these lengths are long enough for a fit.
 pub fn fit_room(model: Model, workspace: usize, beta: usize) -> bool
     ensures { λ r. ⌜ r ≡ fitRoom model workspace beta ⌝ }
 {
-    if workspace < workspace_cells(model) {
+    let d = embedding::order(model);
+    if workspace < regression::workspace_cells(d) {
         return false;
     }
-    embedding::order(model) <= beta
+    d <= beta
 }
 
 // Whether the columns of these lengths that belong together have one length: check 1.
@@ -48,7 +38,8 @@ fn columns_agree(
     }
 }
 
-// The status of a call: 1, 2, 3 (not `room`), 7, 6, 5 or 0. Each check goes over the whole input, and the first that fails is answered.
+// The status of a call: 1, 2, 3 (not `room`), 7, 6, 5 or 0. Each check goes over the whole input, and the first that
+// fails is answered.
 pub fn check(
     model: Model,
     peptide: &[u32],
@@ -62,7 +53,9 @@ pub fn check(
     logs: &[f64],
     room: bool,
 ) -> u8
-    ensures { λ r. ⌜ r ≡ statusOf model (inputOf (now (peptide .entry)) (now (label .entry)) (now (q .entry)) (now (charge .entry)) (now (observed .entry)) (now (letters .entry)) (now (offsets .entry)) (now (masses .entry)) (now (logs .entry))) room ⌝ }
+    ensures { λ r. ⌜ r ≡ statusBy model
+        (modelInput peptide label q charge observed letters offsets masses logs)
+        room ⌝ }
 {
     let rows = peptide.len();
     let peptides = masses.len();

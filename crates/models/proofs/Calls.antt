@@ -1,8 +1,9 @@
--- Laws of a call: what a fit leaves in slices that are longer than it needs, and the whole of a call by the status of its checks.
+-- Laws of a call: what a fit leaves in slices that are longer than it needs, and the whole of a call by the status of
+-- its checks.
 use mathlib.Core.Path.{_≡_, refl, sym, ap, _∙_}
 use mathlib.Core.Bool.{Bool, true, false, cond, _&&_}
 use mathlib.Core.List.{List, [], _++_, map, zipWith}
-use Prim.Native.Nat.{ℕ, _+_, _≤_}
+use Prim.Native.Nat.{ℕ, _≤_}
 use native.Mathlib.Omega.{arith}
 use lib.Dec.{eqb, leb}
 use lib.Ieee.{Float}
@@ -12,23 +13,24 @@ use borrow.Author.Tests.{leb-true, ne-eqb}
 use Rattle.params.specs.Slice.{change}
 use Rattle.float.specs.Number.{zero64}
 use Rattle.status.specs.Status.{accepted}
+use Rattle.status.specs.Told.{ifAccepted, toldFor}
 use Rattle.status.proofs.Laws.{and-true}
 use Rattle.embedding.specs.Design.{orderOf}
 use Rattle.embedding.specs.declared.Model.{Model}
-use Rattle.embedding.specs.declared.Model.the-variants.{Retention, Mobility}
-use Rattle.regression.specs.Regression.{Fit}
-use Rattle.regression.specs.Solve.{systemLength}
+use Rattle.regression.specs.Regression.{Fit, toldBy as outcomeTold}
+use Rattle.regression.specs.Workspace.{FitSlices, workspaceCells}
 use Rattle.regression.specs.declared.FitOutcome.{FitOutcome}
 use Rattle.regression.specs.declared.FitOutcome.the-variants.{Solved, NoTrainingRows, NotSolved}
-use Rattle.model_fit.specs.Input.{Input, queries, fitRoom, workspaceCells}
-use Rattle.model_fit.specs.Samples.{fitOn}
-use Rattle.matrix.specs.Lists.{overwritten}
+use Rattle.model_fit.specs.Input.{Input, queries, fitRoom}
+use Rattle.model_fit.specs.Samples.{fitOfInput}
 use Rattle.model_fit.specs.Shared.{FittedBy}
+use Rattle.matrix.specs.Lists.{overwritten}
 use Rattle.matrix.proofs.Lists.{overwrite-part, zipWith-append, zipWith-none}
 use Rattle.models.specs.declared.FitAnswer.{FitAnswer}
 use Rattle.models.specs.declared.FitAnswer.the-variants.{Fitted, Refused}
 use Rattle.models.specs.Prediction.{isSolved, predictionOf, errorOf, predictions, errors}
-use Rattle.models.specs.Call.{FitSlices, PredictSlices, answerStatus, answerValues, ifAccepted, answerOf, statusFor, valuesFor, predictRoom, fitStatus, predictStatus, FittedWithin, PredictedWithin, FitCall, PredictCall}
+use Rattle.models.specs.Call.{PredictSlices, fitPart, answerOf, toldBy, predictRoom, fitStatus, predictStatus}
+use Rattle.models.specs.Call.{fitFilled, predictFilled, FittedWithin, PredictedWithin, FitCall, PredictCall}
 use Rattle.models.proofs.Writing.{length-predictions}
 
 -- ---- the slices' lengths
@@ -47,7 +49,8 @@ pub record PredictRoom (model : Model) (rows workspace beta predicted error : �
   pub predictions : rows ≤ predicted
   pub errors : rows ≤ error
 
-pub predict-room : (model : Model) (rows workspace beta predicted error : ℕ) → predictRoom model rows workspace beta predicted error ≡ true
+pub predict-room : (model : Model) (rows workspace beta predicted error : ℕ)
+    → predictRoom model rows workspace beta predicted error ≡ true
     → PredictRoom model rows workspace beta predicted error
 predict-room model rows workspace beta predicted error e =
     let a = and-true (fitRoom model workspace beta) (leb rows predicted && leb rows error) e in
@@ -60,32 +63,50 @@ and-is a b c a₁ b₁ c₁ ea eb ec = rw (ea, eb, ec)
 
 -- ---- a fit on the first cells of longer slices
 
--- document 01's cells are two systems
-pub two-systems : (model : Model) → workspaceCells (orderOf model) ≡ systemLength (orderOf model) + systemLength (orderOf model)
-two-systems Retention = refl
-two-systems Mobility = refl
-
 -- what holds of a solved fit, by its test
 if-solved : (o : FitOutcome) (P : Type 0) → isSolved o ≡ true → ((ridge r2 : Float) (n : ℕ) → o ≡ Solved ridge r2 n → P) → P
 if-solved (Solved ridge r2 n) P e h = h ridge r2 n refl
 if-solved NoTrainingRows P e h = let z : _≡_ {A = ℕ} 0 1 = cc in absurd (omega arith)
 if-solved NotSolved P e h = let z : _≡_ {A = ℕ} 0 1 = cc in absurd (omega arith)
 
-pub fitted-within : (model : Model) (i : Input) (k d : ℕ) (w₀ w b₀ b : List Float) (r : FitOutcome) → k ≡ workspaceCells (orderOf model) → d ≡ orderOf model
-    → k ≤ length w₀ → d ≤ length b₀ → length b ≡ length (take d b₀)
-    → FittedBy (fitOn model i) (take k w₀) w (take d b₀) b r
-    → FittedWithin model i (change (record { workspace = w₀; beta = b₀ }) (record { workspace = w ++ drop k w₀; beta = b ++ drop d b₀ })) r
-fitted-within model i k d w₀ w b₀ b r ek ed hk hd kept f =
-    let new : List Float = fitOn model i .beta in
+pub fitted-within : (model : Model) (i : Input) (k d : ℕ) (s t : FitSlices) (r : FitOutcome)
+    → k ≡ workspaceCells (orderOf model)
+    → d ≡ orderOf model
+    → k ≤ length (s .workspace)
+    → d ≤ length (s .coefficients)
+    → length (t .coefficients) ≡ length (take d (s .coefficients))
+    → FittedBy (fitOfInput model i)
+    (change (record { workspace = take k (s .workspace); coefficients = take d (s .coefficients) }) t)
+    r
+    → FittedWithin model i
+    (change s
+    (record {
+      workspace = t .workspace ++ drop k (s .workspace);
+      coefficients = t .coefficients ++ drop d (s .coefficients);
+    }))
+    r
+fitted-within model i k d s t r ek ed hk hd kept f =
+    let w₀ : List Float = s .workspace in
+    let b₀ : List Float = s .coefficients in
+    let new : List Float = fitOfInput model i .coefficients in
     let K : ℕ = workspaceCells (orderOf model) in
     let td : length (take d b₀) ≡ d = length-take-le d b₀ hd in
     let few : length new ≤ d =
-    omega (arith, ap length (f .beta), length-append new (drop (length new) (take d b₀)), length-drop (length new) (take d b₀)) in
-    let zeros : w ≡ replicate K zero64 = f .workspace ∙ ap (λ (n : ℕ). replicate n zero64) (length-take-le k w₀ hk ∙ ek) in
+    omega (
+      arith,
+      ap length (f .coefficients),
+      length-append new (drop (length new) (take d b₀)),
+      length-drop (length new) (take d b₀),
+    ) in
+    let zeros : t .workspace ≡ replicate K zero64 =
+    f .workspace ∙ ap (λ (n : ℕ). replicate n zero64) (length-take-le k w₀ hk ∙ ek) in
+    let workspace-is =
+    ap (λ (x : List Float). x ++ drop k w₀) zeros
+    ∙ ap (λ (n : ℕ). replicate K zero64 ++ drop n w₀) (ek ∙ sym (length-replicate K zero64)) in
+    let coefficients-is = ap (λ (x : List Float). x ++ drop d b₀) (f .coefficients) ∙ overwrite-part new b₀ d few hd in
     record {
       outcome = f .outcome;
-      workspace = ap (λ (t : List Float). t ++ drop k w₀) zeros ∙ ap (λ (n : ℕ). replicate K zero64 ++ drop n w₀) (ek ∙ sym (length-replicate K zero64));
-      beta = ap (λ (t : List Float). t ++ drop d b₀) (f .beta) ∙ overwrite-part new b₀ d few hd;
+      slices = λ j. record { workspace = workspace-is j; coefficients = coefficients-is j };
       long = λ e. if-solved r _ e (λ ridge r2 n told. f .long ridge r2 n told ∙ td ∙ ed);
     }
 
@@ -98,103 +119,120 @@ module _ {A : Type 0} (status : ℕ) (done left : A) where
   pub if-accepted : status ≡ accepted → ifAccepted status done left ≡ done
   if-accepted e = rw e
 
--- ---- every answer has its number and its values
-
-number : (b : Bool) (x y : FitAnswer) → answerStatus (cond b x y) ≡ cond b (answerStatus x) (answerStatus y)
-number true x y = refl
-number false x y = refl
-
-values : (b : Bool) (x y : FitAnswer) → answerValues (cond b x y) ≡ cond b (answerValues x) (answerValues y)
-values true x y = refl
-values false x y = refl
-
-module _ (status : ℕ) (fit : Fit) (r : FitAnswer) (e : r ≡ answerOf status fit) where
-  pub status-of : answerStatus r ≡ statusFor status fit
-  status-of = ap answerStatus e ∙ number (eqb status accepted) (Fitted (fit .outcome)) (Refused status)
-
-  pub values-of : answerValues r ≡ valuesFor status fit
-  values-of = ap answerValues e ∙ values (eqb status accepted) (Fitted (fit .outcome)) (Refused status)
+-- what the answer tells
+told-of : (status : ℕ) (fit : Fit) (r : FitAnswer) → r ≡ answerOf status fit
+    → toldBy r ≡ toldFor status (outcomeTold (fit .outcome))
+told-of status fit r e = ap toldBy e ∙ by-test (eqb status accepted)
+  where
+    by-test : (b : Bool) → toldBy (cond b (Fitted (fit .outcome)) (Refused status))
+        ≡ cond b (toldBy (Fitted (fit .outcome))) (toldBy (Refused status))
+    by-test true = refl
+    by-test false = refl
 
 -- ---- a call of `fit`
 
 module _ (model : Model) (i : Input) (s : FitSlices) where
-  pub fit-refused : (status : ℕ) → status ≡ fitStatus model i s → (status ≡ accepted → ⊥) → FitCall model i (change s s) (Refused status)
+  pub fit-refused : (status : ℕ) → status ≡ fitStatus model i s → (status ≡ accepted → ⊥)
+      → FitCall model i (change s s) (Refused status)
   fit-refused status e ne =
       let n : ℕ = fitStatus model i s in
       let h : n ≡ accepted → ⊥ = λ z. ne (e ∙ z) in
-      let a : Refused status ≡ answerOf n (fitOn model i) = ap Refused e ∙ sym (if-refused n _ _ h) in
-      record {
-        answer = a;
-        status = status-of n (fitOn model i) (Refused status) a;
-        values = values-of n (fitOn model i) (Refused status) a;
-        slices = sym (if-refused n _ _ h);
-      }
+      let a : Refused status ≡ answerOf n (fitOfInput model i) = ap Refused e ∙ sym (if-refused n _ _ h) in
+      record { answer = a; told = told-of n (fitOfInput model i) _ a; slices = sym (if-refused n _ _ h) }
 
-  pub fit-accepted : (t : FitSlices) (r : FitOutcome) → fitStatus model i s ≡ accepted → FittedWithin model i (change s t) r → FitCall model i (change s t) (Fitted r)
+  pub fit-accepted : (t : FitSlices) (r : FitOutcome) → fitStatus model i s ≡ accepted
+      → FittedWithin model i (change s t) r
+      → FitCall model i (change s t) (Fitted r)
   fit-accepted t r h f =
       let n : ℕ = fitStatus model i s in
-      let a : Fitted r ≡ answerOf n (fitOn model i) = ap Fitted (f .outcome) ∙ sym (if-accepted n _ _ h) in
+      let a : Fitted r ≡ answerOf n (fitOfInput model i) = ap Fitted (f .outcome) ∙ sym (if-accepted n _ _ h) in
       record {
         answer = a;
-        status = status-of n (fitOn model i) (Fitted r) a;
-        values = values-of n (fitOn model i) (Fitted r) a;
-        slices = (λ k. record { workspace = f .workspace k; beta = f .beta k }) ∙ sym (if-accepted n _ _ h);
+        told = told-of n (fitOfInput model i) _ a;
+        slices = f .slices ∙ sym (if-accepted n (fitFilled model i s) s h);
       }
 
 -- ---- a call of `predict`
 
 -- what is written where the fit is solved, and where it is not
 module _ (model : Model) (i : Input) (s t : FitSlices) (r : FitOutcome) (f : FittedWithin model i (change s t) r) where
+  coefficients-is : t .coefficients ≡ overwritten (fitOfInput model i .coefficients) (s .coefficients)
+  coefficients-is = ap (λ (x : FitSlices). x .coefficients) (f .slices)
+
   module _ (e : isSolved r ≡ true) where
-    predicted-all : predictions model i ≡ map (predictionOf model (i .table) (fitOn model i .beta)) (queries (i .peptides) (i .charges))
+    -- the predictions with coefficients beta
+    abbrev predicted-with : List Float → List Float
+    predicted-with beta = map (predictionOf model (i .table) beta) (queries (i .peptides) (i .charges))
+
+    predicted-all : predictions model i ≡ predicted-with (fitOfInput model i .coefficients)
     predicted-all = rw (sym (ap isSolved (f .outcome)) ∙ e)
 
     module _ (d : ℕ) (ed : d ≡ orderOf model) (p₀ p₁ : List Float)
-        (p : p₁ ≡ overwritten (map (predictionOf model (i .table) (take d (t .beta))) (queries (i .peptides) (i .charges))) p₀) where
+        (p : p₁ ≡ overwritten (predicted-with (take d (t .coefficients))) p₀) where
       pub solved-predictions : p₁ ≡ overwritten (predictions model i) p₀
       solved-predictions =
-          let b : take d (t .beta) ≡ fitOn model i .beta = ap (take d) (f .beta) ∙ take-at (fitOn model i .beta) _ d (f .long e ∙ sym ed) in
-          p ∙ ap (λ (x : List Float). overwritten (map (predictionOf model (i .table) x) (queries (i .peptides) (i .charges))) p₀) b ∙ ap (λ (x : List Float). overwritten x p₀) (sym predicted-all)
+          let new : List Float = fitOfInput model i .coefficients in
+          let b : take d (t .coefficients) ≡ new = ap (take d) coefficients-is ∙ take-at new _ d (f .long e ∙ sym ed) in
+          p
+          ∙ ap (λ (x : List Float). overwritten (predicted-with x) p₀) b
+          ∙ ap (λ (x : List Float). overwritten x p₀) (sym predicted-all)
 
-      pub solved-errors : (e₀ e₁ : List Float) → length (i .observed) ≡ length (i .peptides) → e₁ ≡ overwritten (zipWith errorOf (i .observed) p₁) e₀ → e₁ ≡ overwritten (errors model i) e₀
+      pub solved-errors : (e₀ e₁ : List Float) → length (i .observed) ≡ length (i .peptides)
+          → e₁ ≡ overwritten (zipWith errorOf (i .observed) p₁) e₀
+          → e₁ ≡ overwritten (errors model i) e₀
       solved-errors e₀ e₁ same er =
-          let m : length (predictions model i) ≡ length (i .peptides) = ap length predicted-all ∙ length-predictions model (i .table) (fitOn model i .beta) (i .peptides) (i .charges) in
+          let n = length-predictions model (i .table) (fitOfInput model i .coefficients) (i .peptides) (i .charges) in
+          let m : length (predictions model i) ≡ length (i .peptides) = ap length predicted-all ∙ n in
           let z : zipWith errorOf (i .observed) p₁ ≡ errors model i =
-          ap (zipWith errorOf (i .observed)) solved-predictions ∙ zipWith-append errorOf (i .observed) (predictions model i) (drop (length (predictions model i)) p₀) (omega arith) in
-          er ∙ ap (λ (t : List Float). overwritten t e₀) z
+          ap (zipWith errorOf (i .observed)) solved-predictions
+          ∙ zipWith-append errorOf (i .observed) (predictions model i) _ (omega arith) in
+          er ∙ ap (λ (x : List Float). overwritten x e₀) z
 
   module _ (e : isSolved r ≡ false) where
     none-predicted : predictions model i ≡ []
     none-predicted = rw (sym (ap isSolved (f .outcome)) ∙ e)
 
     pub unsolved-predictions : (p₀ : List Float) → p₀ ≡ overwritten (predictions model i) p₀
-    unsolved-predictions p₀ = ap (λ (t : List Float). overwritten t p₀) (sym none-predicted)
+    unsolved-predictions p₀ = ap (λ (x : List Float). overwritten x p₀) (sym none-predicted)
 
     pub unsolved-errors : (e₀ : List Float) → e₀ ≡ overwritten (errors model i) e₀
     unsolved-errors e₀ =
-        let z : errors model i ≡ [] = ap (zipWith errorOf (i .observed)) none-predicted ∙ zipWith-none errorOf (i .observed) in
-        ap (λ (t : List Float). overwritten t e₀) (sym z)
+        let z : errors model i ≡ [] =
+        ap (zipWith errorOf (i .observed)) none-predicted ∙ zipWith-none errorOf (i .observed) in
+        ap (λ (x : List Float). overwritten x e₀) (sym z)
+
+-- the fit and the other outputs together
+pub predicted-within : (model : Model) (i : Input) (s t : PredictSlices) (r : FitOutcome)
+    → FittedWithin model i (change (fitPart s) (fitPart t)) r
+    → t .outputs .predicted ≡ overwritten (predictions model i) (s .outputs .predicted)
+    → t .outputs .error ≡ overwritten (errors model i) (s .outputs .error)
+    → PredictedWithin model i (change s t) r
+predicted-within model i s t r f predicted-is error-is =
+    let beta-is = coefficients-is model i (fitPart s) (fitPart t) r f in
+    record {
+      fitted = f;
+      outputs = λ k. record { coefficients = beta-is k; predicted = predicted-is k; error = error-is k };
+    }
 
 module _ (model : Model) (i : Input) (s : PredictSlices) where
-  pub predict-refused : (status : ℕ) → status ≡ predictStatus model i s → (status ≡ accepted → ⊥) → PredictCall model i (change s s) (Refused status)
+  pub predict-refused : (status : ℕ) → status ≡ predictStatus model i s → (status ≡ accepted → ⊥)
+      → PredictCall model i (change s s) (Refused status)
   predict-refused status e ne =
       let n : ℕ = predictStatus model i s in
       let h : n ≡ accepted → ⊥ = λ z. ne (e ∙ z) in
-      let a : Refused status ≡ answerOf n (fitOn model i) = ap Refused e ∙ sym (if-refused n _ _ h) in
-      record {
-        answer = a;
-        status = status-of n (fitOn model i) (Refused status) a;
-        values = values-of n (fitOn model i) (Refused status) a;
-        slices = sym (if-refused n _ _ h);
-      }
+      let a : Refused status ≡ answerOf n (fitOfInput model i) = ap Refused e ∙ sym (if-refused n _ _ h) in
+      record { answer = a; told = told-of n (fitOfInput model i) _ a; slices = sym (if-refused n _ _ h) }
 
-  pub predict-accepted : (t : PredictSlices) (r : FitOutcome) → predictStatus model i s ≡ accepted → PredictedWithin model i (change s t) r → PredictCall model i (change s t) (Fitted r)
+  pub predict-accepted : (t : PredictSlices) (r : FitOutcome) → predictStatus model i s ≡ accepted
+      → PredictedWithin model i (change s t) r
+      → PredictCall model i (change s t) (Fitted r)
   predict-accepted t r h f =
       let n : ℕ = predictStatus model i s in
-      let a : Fitted r ≡ answerOf n (fitOn model i) = ap Fitted (f .fitted .outcome) ∙ sym (if-accepted n _ _ h) in
+      let a : Fitted r ≡ answerOf n (fitOfInput model i) = ap Fitted (f .fitted .outcome) ∙ sym (if-accepted n _ _ h) in
+      let workspace-is = ap (λ (x : FitSlices). x .workspace) (f .fitted .slices) in
+      let filled : t ≡ predictFilled model i s = λ k. record { workspace = workspace-is k; outputs = f .outputs k } in
       record {
         answer = a;
-        status = status-of n (fitOn model i) (Fitted r) a;
-        values = values-of n (fitOn model i) (Fitted r) a;
-        slices = (λ k. record { workspace = f .fitted .workspace k; beta = f .fitted .beta k; predicted = f .predicted k; error = f .error k }) ∙ sym (if-accepted n _ _ h);
+        told = told-of n (fitOfInput model i) _ a;
+        slices = filled ∙ sym (if-accepted n (predictFilled model i s) s h);
       }

@@ -12,7 +12,7 @@ use Rattle.regression.specs.Regression.{dot}
 use Rattle.regression.specs.declared.FitOutcome.{FitOutcome}
 use Rattle.regression.specs.declared.FitOutcome.the-variants.{Solved, NoTrainingRows, NotSolved}
 use Rattle.model_fit.specs.Input.{Input, Query, queries}
-use Rattle.model_fit.specs.Samples.{designOf, fitOn}
+use Rattle.model_fit.specs.Samples.{designOf, fitOfInput}
 
 -- predictions are clamped to 0.0 and this
 abbrev pub largest : Model → Float
@@ -36,7 +36,10 @@ isSolved NotSolved = false
 -- of all rows, in order; none where the fit is not solved
 abbrev pub predictions : Model → Input → List Float
 predictions model i =
-    cond (isSolved (fitOn model i .outcome)) (map (predictionOf model (i .table) (fitOn model i .beta)) (queries (i .peptides) (i .charges))) []
+    let fit = fitOfInput model i in
+    cond (isSolved (fit .outcome))
+    (map (predictionOf model (i .table) (fit .coefficients)) (queries (i .peptides) (i .charges)))
+    []
 
 abbrev pub errors : Model → Input → List Float
 errors model i = zipWith errorOf (i .observed) (predictions model i)

@@ -1,12 +1,13 @@
 // Mobility: a linear model of the ion mobility from 100 columns of a peptide and a charge.
 ghost use Rattle.embedding.specs.declared.Model.{Model};
-ghost use Rattle.models.specs.Call.{mobilityInput, fitSlices, predictSlices, FitCall, PredictCall};
+ghost use Rattle.regression.specs.Workspace.{fitSlices};
+ghost use Rattle.models.specs.Call.{mobilityInput, outputsOf, predictSlices, FitCall, PredictCall};
 use crate::FitAnswer;
 use crate::prediction;
 use embedding::Model;
 
-// Fits the mobilities of the training rows. `beta` gets the 100 coefficients of a fit that is solved. The first 20,200 cells of `workspace` are
-// used, and end as +0.0 once the checks have passed.
+// Fits the mobilities of the training rows. `beta` gets the 100 coefficients of a fit that is solved. The first
+// 20,200 cells of `workspace` are used, and end as +0.0 once the checks have passed.
 pub fn fit(
     peptide: &[u32],
     label: &[i32],
@@ -41,8 +42,8 @@ pub fn fit(
     )
 }
 
-// Fits as `fit` does and, where that is solved, writes each row's prediction, clamped to 0..2, into `predicted` and |mobility - prediction| into
-// `error`.
+// Fits as `fit` does and, where that is solved, writes each row's prediction, clamped to 0..2, into `predicted` and
+// |mobility - prediction| into `error`.
 pub fn predict(
     peptide: &[u32],
     label: &[i32],
@@ -59,7 +60,7 @@ pub fn predict(
 ) -> FitAnswer
     ensures { λ r. ⌜ PredictCall Model.Mobility
         (mobilityInput peptide label q charge mobility letters offsets masses)
-        (predictSlices workspace beta predicted error)
+        (predictSlices workspace (outputsOf beta predicted error))
         r ⌝ }
 {
     let none = [0.0f64; 1];

@@ -1,21 +1,34 @@
-// Predictions and errors, each written by a function of its own, and the two calls that the entry points of both models make.
+// Predictions and errors, each written by a function of its own, and the two calls that the entry points of both models
+// make.
 ghost use mathlib.Core.Path.{_≡_};
 ghost use mathlib.Core.Bool.{true};
 ghost use mathlib.Core.List.{map, zipWith};
 ghost use Prim.Native.Nat.{_≤_};
 ghost use lib.ListN.{length};
-ghost use Rattle.model_fit.specs.Input.{tableOf, queries, fitRoom};
+ghost use Rattle.regression.specs.Workspace.{fitSlices};
+ghost use Rattle.model_fit.specs.Input.{inputAt, modelInput, tableAt, tableIn, queries, fitRoom};
 ghost use Rattle.matrix.specs.Lists.{overwritten};
 ghost use Rattle.model_fit.specs.Shared.{Numbered, Checked};
 ghost use Rattle.models.specs.Prediction.{largest, isSolved, predictionOf, errorOf};
-ghost use Rattle.models.specs.Call.{inputAt, modelInput, fitSlices, predictSlices, predictRoom, FittedWithin, PredictedWithin, FitCall, PredictCall};
+ghost use Rattle.models.specs.Call.{
+  outputsOf,
+  predictAt,
+  predictSlices,
+  predictRoom,
+  predictRoomIn,
+  FittedWithin,
+  PredictedWithin,
+  FitCall,
+  PredictCall,
+};
 use crate::FitAnswer;
 use embedding::Model;
 use matrix::PeptideIx;
 use model_fit::checks::check;
 use model_fit::checks::fit_room;
-use model_fit::checks::workspace_cells;
 use model_fit::design::charge_at;
+use model_fit::design::log_at;
+use model_fit::design::mass_at;
 use model_fit::training::fit_checked;
 use model_fit::training::predict_peptide;
 use regression::FitOutcome;
@@ -42,16 +55,24 @@ pub(crate) fn write_predictions(
     beta: &[f64],
     predicted: &mut [f32],
 )
-    requires { ⌜ Numbered (tableOf (now letters) (now offsets) (now masses) (now logs)) (now peptide) ⌝ }
+    requires { ⌜ Numbered (tableAt letters offsets masses logs) (now peptide) ⌝ }
     requires { ⌜ length (now peptide) ≤ length (now predicted) ⌝ }
-    ensures { λ _. ⌜ now (predicted .exit) ≡ overwritten (map (predictionOf model (tableOf (now (letters .entry)) (now (offsets .entry)) (now (masses .entry)) (now (logs .entry))) (now (beta .entry))) (queries (now (peptide .entry)) (now (charge .entry)))) (now (predicted .entry)) ⌝ }
+    ensures { λ _. ⌜ now (predicted .exit) ≡ overwritten
+        (map
+        (predictionOf model (tableIn letters offsets masses logs) (now (beta .entry)))
+        (queries (now (peptide .entry)) (now (charge .entry))))
+        (now (predicted .entry)) ⌝ }
 {
     let hi = largest(model);
-    let mut row = [0.0f64; 100];
+    let mut row = [0.0f64; status::MAX_ORDER];
     for i in 0..peptide.len() {
-        let ix = PeptideIx(peptide[i]);
         let z = charge_at(charge, i);
-        let x = predict_peptide(model, ix, z, letters, offsets, masses, logs, beta, &mut row);
+        let number = peptide[i];
+        let p = PeptideIx(number);
+        let sequence = peptide::sequence(letters, offsets, p);
+        let log = log_at(logs, p);
+        let mass = mass_at(masses, p);
+        let x = predict_peptide(model, sequence, log, mass, z, beta, &mut row);
         predicted[i] = float::narrow(float::clamp64(x, 0.0, hi));
     }
 }
@@ -67,7 +88,9 @@ fn error_of(observed: f32, predicted: f32) -> f32
 pub(crate) fn write_errors(observed: &[f32], predicted: &[f32], error: &mut [f32])
     requires { ⌜ length (now observed) ≤ length (now predicted) ⌝ }
     requires { ⌜ length (now observed) ≤ length (now error) ⌝ }
-    ensures { λ _. ⌜ now (error .exit) ≡ overwritten (zipWith errorOf (now (observed .entry)) (now (predicted .entry))) (now (error .entry)) ⌝ }
+    ensures { λ _. ⌜ now (error .exit) ≡ overwritten
+        (zipWith errorOf (now (observed .entry)) (now (predicted .entry)))
+        (now (error .entry)) ⌝ }
 {
     for i in 0..observed.len() {
         error[i] = error_of(observed[i], predicted[i]);
@@ -96,8 +119,8 @@ fn fit_accepted(
         (fitSlices workspace beta)
         r ⌝ }
 {
-    let cells = workspace_cells(model);
     let d = embedding::order(model);
+    let cells = regression::workspace_cells(d);
     fit_checked(
         model,
         peptide,
@@ -216,10 +239,13 @@ fn predict_accepted(
     error: &mut [f32],
 ) -> FitOutcome
     requires { ⌜ Checked (inputAt peptide label q charge observed letters offsets masses logs) ⌝ }
-    requires { ⌜ predictRoom model (length (now peptide)) (length (now workspace)) (length (now beta)) (length (now predicted)) (length (now error)) ≡ true ⌝ }
+    requires { ⌜ predictRoomIn model
+        (inputAt peptide label q charge observed letters offsets masses logs)
+        (predictAt workspace beta predicted error)
+        ≡ true ⌝ }
     ensures { λ r. ⌜ PredictedWithin model
         (modelInput peptide label q charge observed letters offsets masses logs)
-        (predictSlices workspace beta predicted error)
+        (predictSlices workspace (outputsOf beta predicted error))
         r ⌝ }
 {
     let outcome = fit_accepted(
@@ -273,7 +299,7 @@ pub(crate) fn predict(
 ) -> FitAnswer
     ensures { λ r. ⌜ PredictCall model
         (modelInput peptide label q charge observed letters offsets masses logs)
-        (predictSlices workspace beta predicted error)
+        (predictSlices workspace (outputsOf beta predicted error))
         r ⌝ }
 {
     let room = predict_room(

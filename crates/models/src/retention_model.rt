@@ -1,12 +1,13 @@
 // Retention: a linear model of the aligned time from 69 columns of a peptide.
 ghost use Rattle.embedding.specs.declared.Model.{Model};
-ghost use Rattle.models.specs.Call.{retentionInput, fitSlices, predictSlices, FitCall, PredictCall};
+ghost use Rattle.regression.specs.Workspace.{fitSlices};
+ghost use Rattle.models.specs.Call.{retentionInput, outputsOf, predictSlices, FitCall, PredictCall};
 use crate::FitAnswer;
 use crate::prediction;
 use embedding::Model;
 
-// Fits the aligned times of the training rows. `beta` gets the 69 coefficients of a fit that is solved. The first 9,660 cells of `workspace` are
-// used, and end as +0.0 once the checks have passed.
+// Fits the aligned times of the training rows. `beta` gets the 69 coefficients of a fit that is solved. The first
+// 9,660 cells of `workspace` are used, and end as +0.0 once the checks have passed.
 pub fn fit(
     peptide: &[u32],
     label: &[i32],
@@ -40,8 +41,8 @@ pub fn fit(
     )
 }
 
-// Fits as `fit` does and, where that is solved, writes each row's prediction, clamped to 0..1, into `predicted` and |aligned - prediction| into
-// `error`.
+// Fits as `fit` does and, where that is solved, writes each row's prediction, clamped to 0..1, into `predicted` and
+// |aligned - prediction| into `error`.
 pub fn predict(
     peptide: &[u32],
     label: &[i32],
@@ -58,7 +59,7 @@ pub fn predict(
 ) -> FitAnswer
     ensures { λ r. ⌜ PredictCall Model.Retention
         (retentionInput peptide label q aligned letters offsets masses logs)
-        (predictSlices workspace beta predicted error)
+        (predictSlices workspace (outputsOf beta predicted error))
         r ⌝ }
 {
     prediction::predict(

@@ -15,7 +15,16 @@ use Rattle.status.specs.Checks.{every}
 use Rattle.status.specs.Limits.{maxLetters}
 use Rattle.status.specs.Status.{accepted, badOffsets, badLetter, firstFailing}
 use Rattle.status.proofs.Laws.{and-true, every-take, every-drop}
-use Rattle.peptide.specs.Table.{climbs, offsetsRight, lettersRight, tableStatus, startOf, endOf, sequenceOf, HasPeptide}
+use Rattle.peptide.specs.Table.{
+  climbs,
+  offsetsRight,
+  lettersRight,
+  tableStatus,
+  startOf,
+  endOf,
+  sequenceOf,
+  HasPeptide,
+}
 
 -- ---- a loop through the offsets
 

@@ -1,4 +1,5 @@
-// The peptide table: the letters of all peptides in one slice, and offsets that say where each peptide's begin and the last's end.
+// The peptide table: the letters of all peptides in one slice, and offsets that say where each peptide's begin and
+// the last's end.
 use matrix::PeptideIx;
 ghost use mathlib.Core.Path.{_≡_};
 ghost use Rattle.peptide.specs.Table.{offsetsRight, lettersRight, tableStatus, sequenceOf, HasPeptide};
@@ -62,7 +63,8 @@ pub fn check_table(letters: &[u8], offsets: &[u32], peptides: usize) -> u8
     status::ACCEPTED
 }
 
-// A peptide's letters. For the models, which call it on a table that has passed and a peptide's number below its peptides.
+// A peptide's letters. For the models, which call it on a table that has passed and a peptide's number below its
+// peptides.
 pub fn sequence<'a>(letters: &'a [u8], offsets: &[u32], p: PeptideIx) -> &'a [u8]
     requires { ⌜ HasPeptide (now letters) (now offsets) (p .0) ⌝ }
     ensures { λ r. ⌜ now r ≡ sequenceOf (now (letters .entry)) (now (offsets .entry)) (p .0) ⌝ }

@@ -1,12 +1,14 @@
--- The record of a file in a list of records, and a row's aligned time by it: what is answered, its number and its values. Definitions only.
+-- The record of a file in a list of records, and a row's aligned time by it: what is answered, and what that tells.
+-- Definitions only.
 use Prim.Native.Nat.{ℕ}
 use mathlib.Core.Bool.{Bool, cond}
-use mathlib.Core.List.{List, [], _∷_, map}
+use mathlib.Core.List.{List, [], _∷_}
 use mathlib.Core.Path.{_≡_}
 use lib.Dec.{ltb}
 use lib.Ieee.{Float}
 use lib.ListN.{length, getD}
-use Rattle.status.specs.Status.{accepted, badFile}
+use Rattle.status.specs.Status.{badFile, firstFailing}
+use Rattle.status.specs.Told.{Told, gives, only, toldFor}
 use Rattle.rt_matrix.specs.declared.Alignment.{Alignment}
 use Rattle.retention_alignment.specs.Alignments.{alignedBy, noAlignment}
 use Rattle.records.specs.declared.AlignedTime.{AlignedTime}
@@ -32,54 +34,38 @@ abbrev pub timeBy : Found → Float → AlignedTime
 timeBy (At a) rt = Time (alignedBy a rt)
 timeBy (Refused n) rt = NoTime n
 
--- ---- the number of document 01's table for each case of an answer, and its values: one or none
+-- ---- what every case of an answer tells
 
-abbrev pub numberOf : Found → ℕ
-numberOf (At a) = accepted
-numberOf (Refused n) = n
+abbrev pub toldBy : Found → Told Alignment
+toldBy (At a) = gives a
+toldBy (Refused n) = only n
 
-abbrev pub recordsIn : Found → List Alignment
-recordsIn (At a) = a ∷ []
-recordsIn (Refused n) = []
+abbrev pub timeToldBy : AlignedTime → Told Float
+timeToldBy (Time t) = gives t
+timeToldBy (NoTime n) = only n
 
-abbrev pub timeNumberOf : AlignedTime → ℕ
-timeNumberOf (Time t) = accepted
-timeNumberOf (NoTime n) = n
+-- of a time, by what was found
+abbrev pub timeTold : Found → Float → Told Float
+timeTold (At a) rt = gives (alignedBy a rt)
+timeTold (Refused n) rt = only n
 
-abbrev pub timesIn : AlignedTime → List Float
-timesIn (Time t) = t ∷ []
-timesIn (NoTime n) = []
+-- the status for a list of records and a file: 4 where the list ends before the file
+abbrev pub status : List Alignment → ℕ → ℕ
+status records file = firstFailing ((badFile, reaches records file) ∷ [])
 
--- ---- the number and the values for a list of records and a file
-
--- 4 where the list ends before the file
-abbrev pub numberFor : List Alignment → ℕ → ℕ
-numberFor records file = cond (reaches records file) accepted badFile
-
--- the file's record, or none
-abbrev pub recordsFor : List Alignment → ℕ → List Alignment
-recordsFor records file = cond (reaches records file) (recordAt records file ∷ []) []
-
--- a time by each of some records
-abbrev pub timesBy : List Alignment → Float → List Float
-timesBy records rt = map (λ (a : Alignment). alignedBy a rt) records
-
--- ---- the contracts: the answer, its number and its values
+-- ---- the contracts: the answer, and what it tells
 
 -- of `record_of`
 pub record LookupCall (records : List Alignment) (file : ℕ) (r : Found) : Type 0 where
   pub answer : r ≡ recordOf records file
-  pub number : numberOf r ≡ numberFor records file
-  pub values : recordsIn r ≡ recordsFor records file
+  pub told : toldBy r ≡ toldFor (status records file) (gives (recordAt records file))
 
--- of `time_by`: the number of what was found stays
+-- of `time_by`: the status of what was found stays
 pub record TimeByCall (found : Found) (rt : Float) (r : AlignedTime) : Type 0 where
   pub answer : r ≡ timeBy found rt
-  pub number : timeNumberOf r ≡ numberOf found
-  pub values : timesIn r ≡ timesBy (recordsIn found) rt
+  pub told : timeToldBy r ≡ timeTold found rt
 
 -- of `aligned`
 pub record AlignedCall (records : List Alignment) (file : ℕ) (rt : Float) (r : AlignedTime) : Type 0 where
   pub answer : r ≡ timeBy (recordOf records file) rt
-  pub number : timeNumberOf r ≡ numberFor records file
-  pub values : timesIn r ≡ timesBy (recordsFor records file) rt
+  pub told : timeToldBy r ≡ toldFor (status records file) (gives (alignedBy (recordAt records file) rt))

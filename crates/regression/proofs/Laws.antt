@@ -1,21 +1,22 @@
--- Laws of the definitions of a regression: what one sample more does to every sum over the samples, and what the sums are of none.
+-- Laws of the definitions of a regression: what one sample more does to every sum over the samples, and what the sums
+-- are of none.
 use mathlib.Core.Path.{_≡_, refl, ap, sym, _∙_}
 use mathlib.Core.List.{List, [], _∷_, _++_, map, map-append, foldl-append}
-use Prim.Native.Nat.{ℕ, _+_, _-_, _*_, _<_}
+use Prim.Native.Nat.{ℕ, _+_, _*_, _<_}
 use native.Mathlib.Nat.{not-suc-le-zero, le-of-eq}
 use native.Mathlib.Omega.{arith}
-use lib.ListN.{length, drop, replicate, length-append, List·getD-append, replicate-append-replicate}
+use lib.ListN.{length, replicate, length-append, List·getD-append, replicate-append-replicate}
 use lib.Ieee.{Float, nan, binary64, add, mul}
 use Rattle.matrix.specs.Rows.{rowsOf, flat}
 use Rattle.float.specs.Number.{zero64}
 use Rattle.matrix.proofs.Laws.{Wide, length-flat, rowsOf-flat}
 use Rattle.matrix.specs.Lists.{zipped, tabulate}
-use Rattle.matrix.proofs.Lists.{length-tabulate, tabulate-same, tabulate-constant, zipped-tabulate, wide-tabulate, flat-replicate, zipped-snoc}
-use Rattle.elimination.specs.Ridge.{Solution, solved, unsolved, firstSolved, ridges}
+use Rattle.matrix.proofs.Lists.{length-tabulate, tabulate-same, tabulate-constant, wide-tabulate}
+use Rattle.matrix.proofs.Lists.{zipped-tabulate, flat-replicate, zipped-snoc}
+use Rattle.elimination.specs.Ridge.{firstSolved, ridges}
 use Rattle.regression.specs.declared.FitOutcome.the-variants.{NoTrainingRows}
-use Rattle.regression.specs.declared.FirstRidge.the-variants.{Solves, None}
-use Rattle.regression.specs.Solve.{systemLength, kept, SolvedBy}
-use Rattle.regression.specs.Regression.{fitBy, fitOf, Sample, extended, total, column, cov, rhs, normal, plusScaled, addRow, noSums, plusTarget, sumsOf, squaredError, sse}
+use Rattle.regression.specs.Regression.{Sample, extended, total, column, cov, rhs, normal, plusScaled, addRow}
+use Rattle.regression.specs.Regression.{noSums, plusTarget, sumsOf, squaredError, sse, fitFrom, fitOf}
 
 -- ---- sums over the samples
 
@@ -84,48 +85,17 @@ sse-nil beta = refl
 pub sse-snoc : (beta : List Float) (ss : List Sample) (s : Sample) → sse beta (ss ++ s ∷ []) ≡ add binary64 (sse beta ss) (squaredError beta s)
 sse-snoc beta ss s = total-snoc (squaredError beta) ss s
 
--- ---- for the loops of the models
-
--- `add_row` on the normal equations of the samples so far
-pub add-row-normal : (D : ℕ) (ss : List Sample) (s : Sample) (acc acc₁ ext : List Float) → length (s .row) ≡ D → acc ≡ flat (normal D ss) → ext ≡ extended s
-    → acc₁ ≡ flat (addRow (rowsOf (length ext) (length ext - 1) acc) ext) → acc₁ ≡ flat (normal D (ss ++ s ∷ []))
-add-row-normal D ss s acc acc₁ ext wide a x e =
-    let w : length ext ≡ D + 1 = ap length x ∙ length-append (s .row) (s .y ∷ []) ∙ ap (λ (n : ℕ). n + 1) wide in
-    let n : length ext - 1 ≡ D = omega arith in
-    e ∙ rw (n, w, a, x, rowsOf-normal D ss) (ap flat (normal-snoc D ss s wide))
-
--- `add_two_rows` on them
-pub add-two-rows-normal : (D : ℕ) (ss : List Sample) (s t : Sample) (acc acc₁ first second : List Float) → length (s .row) ≡ D → length (t .row) ≡ D
-    → acc ≡ flat (normal D ss)
-    → first ≡ extended s
-    → second ≡ extended t
-    → acc₁ ≡ flat (addRow (addRow (rowsOf (length first) (length first - 1) acc) first) second)
-    → acc₁ ≡ flat (normal D ((ss ++ s ∷ []) ++ t ∷ []))
-add-two-rows-normal D ss s t acc acc₁ first second wide wide′ a x x′ e =
-    let w : length first ≡ D + 1 = ap length x ∙ length-append (s .row) (s .y ∷ []) ∙ ap (λ (n : ℕ). n + 1) wide in
-    let n : length first - 1 ≡ D = omega arith in
-    e ∙ rw (n, w, a, x, x′, rowsOf-normal D ss, normal-snoc D ss s wide) (ap flat (normal-snoc D (ss ++ s ∷ []) t wide′))
-
--- the rows that `solve` finds
-pub kept-normal : (D : ℕ) (ss : List Sample) (cells : List Float) → drop (systemLength D) cells ≡ flat (normal D ss) → kept D cells ≡ normal D ss
-kept-normal D ss cells e = ap (rowsOf (D + 1) D) e ∙ rowsOf-normal D ss
-
--- what the answer of `solve` says
-pub solve-solved : (s : Solution) (cells₀ cells₁ beta₀ beta₁ : List Float) (eps : Float) → SolvedBy s cells₀ cells₁ beta₀ beta₁ (Solves eps) → s ≡ solved eps beta₁
-solve-solved (solved ridge beta) cells₀ cells₁ beta₀ beta₁ eps h = cc (h .answer, h .beta)
-solve-solved unsolved cells₀ cells₁ beta₀ beta₁ eps h = cc (h .answer)
-
-pub solve-none : (s : Solution) (cells₀ cells₁ beta₀ beta₁ : List Float) → SolvedBy s cells₀ cells₁ beta₀ beta₁ None → s ≡ unsolved
-solve-none (solved ridge beta) cells₀ cells₁ beta₀ beta₁ h = cc (h .answer)
-solve-none unsolved cells₀ cells₁ beta₀ beta₁ h = refl
+-- ---- the fit
 
 -- the fit of no sample, and of some
-pub fit-none : (D : ℕ) (ss : List Sample) → length ss ≡ 0 → fitOf D ss ≡ record { outcome = NoTrainingRows; beta = [] }
+pub fit-none : (D : ℕ) (ss : List Sample) → length ss ≡ 0
+    → fitOf D ss ≡ record { outcome = NoTrainingRows; coefficients = [] }
 unfolding fitOf
 fit-none D [] h = refl
 fit-none D (s ∷ ss) h = absurd (omega arith)
 
-pub fit-some : (D : ℕ) (ss : List Sample) → 0 < length ss → fitOf D ss ≡ fitBy ss (firstSolved D (normal D ss) ridges)
+pub fit-some : (D : ℕ) (ss : List Sample) → 0 < length ss
+    → fitOf D ss ≡ fitFrom ss (firstSolved D (normal D ss) ridges)
 unfolding fitOf
 fit-some D [] h = absurd (not-suc-le-zero h)
 fit-some D (s ∷ ss) h = refl

@@ -1,3 +1,5 @@
--- What a fit over samples is: the normal equations, the sums of the target, predictions, r2 and the fit's outcome.
+-- What a fit over samples is: the normal equations, the sums of the target, predictions, r2 and the fit's outcome; and
+-- the workspace that it is worked out in.
 pub mod Regression
+pub mod Workspace
 pub mod Solve

@@ -1,11 +1,12 @@
--- Linear regression over a list of samples by the normal equations. Every product, sum and quotient is IEEE 754's on binary64, rounded once,
--- and every sum goes over the samples in their order, from 0.0. Definitions only.
+-- Linear regression over a list of samples by the normal equations. Every product, sum and quotient is IEEE 754's on
+-- binary64, rounded once, and every sum goes over the samples in their order, from 0.0. Definitions only.
 use mathlib.Core.List.{List, [], _∷_, _++_, map, zipWith}
-use mathlib.Core.Option.{Option, some, none}
 use Prim.Native.Nat.{ℕ, _+_}
 use lib.ListN.{length, getD}
 use lib.Ieee.{Float, nan, binary64, add, sub, mul, div}
 use Rattle.float.specs.Number.{zero64, one64, number, sumFrom}
+use Rattle.status.specs.Status.{noTraining, notSolved}
+use Rattle.status.specs.Told.{Told, gives, only}
 use Rattle.matrix.specs.Lists.{tabulate, zipped}
 use Rattle.elimination.specs.Ridge.{Solution, solved, unsolved, firstSolved, ridges}
 use Rattle.regression.specs.declared.Sums.{Sums}
@@ -61,11 +62,20 @@ noSums = record { n = 0; «sum_y» = zero64; «sum_y2» = zero64 }
 -- one target more
 abbrev pub plusTarget : Sums → Float → Sums
 plusTarget t y =
-    record { n = t .n + 1; «sum_y» = add binary64 (t .«sum_y») y; «sum_y2» = add binary64 (t .«sum_y2») (mul binary64 y y) }
+    record {
+      n = t .n + 1;
+      «sum_y» = add binary64 (t .«sum_y») y;
+      «sum_y2» = add binary64 (t .«sum_y2») (mul binary64 y y);
+    }
 
 -- the number of samples, the sum of y and the sum of y × y
 abbrev pub sumsOf : List Sample → Sums
-sumsOf ss = record { n = length ss; «sum_y» = total (λ s. s .y) ss; «sum_y2» = total (λ s. mul binary64 (s .y) (s .y)) ss }
+sumsOf ss =
+    record {
+      n = length ss;
+      «sum_y» = total (λ s. s .y) ss;
+      «sum_y2» = total (λ s. mul binary64 (s .y) (s .y)) ss;
+    }
 
 -- ---- predictions and r2
 
@@ -100,23 +110,20 @@ r2Of t errors = sub binary64 one64 (div binary64 errors (yVar t))
 -- what a fit answers, and its coefficients
 pub record Fit : Type 0 where
   pub outcome : FitOutcome
-  pub beta : List Float
+  pub coefficients : List Float
 
 -- of the samples and the solution of their normal equations
-abbrev pub fitBy : List Sample → Solution → Fit
-fitBy ss (solved ridge beta) = record { outcome = Solved ridge (r2Of (sumsOf ss) (sse beta ss)) (length ss); beta = beta }
-fitBy ss unsolved = record { outcome = NotSolved; beta = [] }
+abbrev pub fitFrom : List Sample → Solution → Fit
+fitFrom ss (solved ridge beta) =
+    record { outcome = Solved ridge (r2Of (sumsOf ss) (sse beta ss)) (length ss); coefficients = beta }
+fitFrom ss unsolved = record { outcome = NotSolved; coefficients = [] }
 
 -- of order D: the coefficients are the solution for the first ridge of the series that solves the normal equations
 unfoldable pub fitOf : ℕ → List Sample → Fit
-fitOf D [] = record { outcome = NoTrainingRows; beta = [] }
-fitOf D (s ∷ ss) = fitBy (s ∷ ss) (firstSolved D (normal D (s ∷ ss)) ridges)
+fitOf D [] = record { outcome = NoTrainingRows; coefficients = [] }
+fitOf D (s ∷ ss) = fitFrom (s ∷ ss) (firstSolved D (normal D (s ∷ ss)) ridges)
 
--- the number of document 01's table for each answer
-abbrev pub statusOf : FitOutcome → ℕ
-statusOf (Solved ridge r2 n) = 0
-statusOf NoTrainingRows = 8
-statusOf NotSolved = 9
+-- ---- what an outcome tells
 
 -- ridge, r2 and n, which only a solved fit has
 pub record Values : Type 0 where
@@ -124,7 +131,7 @@ pub record Values : Type 0 where
   pub r2 : Float
   pub n : ℕ
 
-abbrev pub valuesOf : FitOutcome → Option Values
-valuesOf (Solved ridge r2 n) = some (record { ridge = ridge; r2 = r2; n = n })
-valuesOf NoTrainingRows = none
-valuesOf NotSolved = none
+abbrev pub toldBy : FitOutcome → Told Values
+toldBy (Solved ridge r2 n) = gives (record { ridge = ridge; r2 = r2; n = n })
+toldBy NoTrainingRows = only noTraining
+toldBy NotSolved = only notSolved

@@ -1,14 +1,24 @@
 // Streaming least squares: the normal equations are summed row by row, without the design matrix, and
 // solved with the first ridge that does. The steps here are called by the loops of both models, for any
-// order D. The equations are D rows of D + 1 cells, [cov | b] row by row.
+// order D. The equations are D rows of D + 1 cells, [cov | b] row by row, and lie in the fit's workspace: what
+// else is in it, and where, is this crate's own.
 ghost use mathlib.Core.Path.{_≡_};
 ghost use mathlib.Core.List.{_++_};
 ghost use Prim.Native.Nat.{_+_, _-_, _*_, _≤_, _<_};
 ghost use lib.ListN.{length, drop};
 ghost use Rattle.matrix.specs.Rows.{rowsOf, flat};
 ghost use Rattle.matrix.specs.Lists.{zipped};
-ghost use Rattle.elimination.specs.Ridge.{firstSolved, ridges};
-ghost use Rattle.regression.specs.Solve.{Attempted, Found, SolvedBy, Workspace, kept};
+ghost use Rattle.status.specs.Limits.{maxOrder, maxRows};
+ghost use Rattle.regression.specs.Workspace.{
+  Workspace,
+  workspaceCells,
+  systemLength,
+  equations,
+  withEquations,
+  cleared,
+  fitSlices,
+};
+ghost use Rattle.regression.specs.Solve.{Attempted, Found, SolvedBy, solutionIn};
 ghost use Rattle.regression.specs.Regression.{
   addRow,
   dot,
@@ -44,11 +54,11 @@ fn add_scaled(dst: &mut [f64], src: &[f64], factor: f64)
     }
 }
 
-// Adds a sample to the normal equations: `ext` is its design row and then its target, and row j of `acc`
-// gains `ext[j]` times `ext`. For the models: `acc` has one row less than it has columns.
-pub fn add_row(acc: &mut [f64], ext: &[f64])
+// Adds to row j of `acc`, which has one row less than it has columns, `ext[j]` times `ext`.
+fn add_to_rows(acc: &mut [f64], ext: &[f64])
     requires { ⌜ length (now acc) ≡ (length (now ext) - 1) * length (now ext) ⌝ }
-    ensures { λ _. ⌜ now (acc .exit) ≡ flat (addRow (rowsOf (length (now (ext .entry))) (length (now (ext .entry)) - 1) (now (acc .entry))) (now (ext .entry))) ⌝ }
+    ensures { λ _. ⌜ (let w = length (now (ext .entry)) in
+        now (acc .exit) ≡ flat (addRow (rowsOf w (w - 1) (now (acc .entry))) (now (ext .entry)))) ⌝ }
 {
     let w = ext.len();
     let mut start = 0usize;
@@ -65,7 +75,9 @@ pub fn add_row(acc: &mut [f64], ext: &[f64])
 fn add_scaled_two(dst: &mut [f64], x: &[f64], a: f64, y: &[f64], b: f64)
     requires { ⌜ length (now dst) ≤ length (now x) ⌝ }
     requires { ⌜ length (now dst) ≤ length (now y) ⌝ }
-    ensures { λ _. ⌜ now (dst .exit) ≡ zipped (plusScaled b) (zipped (plusScaled a) (now (dst .entry)) (now (x .entry))) (now (y .entry)) ⌝ }
+    ensures { λ _. ⌜ now (dst .exit) ≡ zipped (plusScaled b)
+        (zipped (plusScaled a) (now (dst .entry)) (now (x .entry)))
+        (now (y .entry)) ⌝ }
 {
     let mut k = 0usize;
     while k < dst.len() {
@@ -74,12 +86,14 @@ fn add_scaled_two(dst: &mut [f64], x: &[f64], a: f64, y: &[f64], b: f64)
     }
 }
 
-// Adds two samples to the normal equations in one pass over them, to each cell the first sample's product before the second's: what `add_row` does
-// twice. For the models: both rows have one length, and `acc` has one row less than that.
-pub fn add_two_rows(acc: &mut [f64], first: &[f64], second: &[f64])
+// Adds to each cell of `acc` what `add_to_rows` does for `first`, and then for `second`, in one pass.
+fn add_two_to_rows(acc: &mut [f64], first: &[f64], second: &[f64])
     requires { ⌜ length (now acc) ≡ (length (now first) - 1) * length (now first) ⌝ }
     requires { ⌜ length (now second) ≡ length (now first) ⌝ }
-    ensures { λ _. ⌜ now (acc .exit) ≡ flat (addRow (addRow (rowsOf (length (now (first .entry))) (length (now (first .entry)) - 1) (now (acc .entry))) (now (first .entry))) (now (second .entry))) ⌝ }
+    ensures { λ _. ⌜ (let w = length (now (first .entry)) in
+        now (acc .exit) ≡ flat (addRow
+        (addRow (rowsOf w (w - 1) (now (acc .entry))) (now (first .entry)))
+        (now (second .entry)))) ⌝ }
 {
     let w = first.len();
     let mut start = 0usize;
@@ -90,6 +104,54 @@ pub fn add_two_rows(acc: &mut [f64], first: &[f64], second: &[f64])
         start = end;
         j += 1;
     }
+}
+
+// The cells of d augmented rows.
+fn system_length(d: usize) -> usize
+    requires { ⌜ d ≤ maxOrder ⌝ }
+    ensures { λ r. ⌜ r ≡ systemLength d ⌝ }
+{
+    d * (d + 1)
+}
+
+// How many cells the workspace of a fit has: two systems. For the models, whose order d is at most 100.
+pub fn workspace_cells(d: usize) -> usize
+    requires { ⌜ d ≤ maxOrder ⌝ }
+    ensures { λ r. ⌜ r ≡ workspaceCells d ⌝ }
+{
+    2 * system_length(d)
+}
+
+// Clears a workspace: it then holds the normal equations of no sample.
+pub fn clear(workspace: &mut [f64])
+    ensures { λ _. ⌜ now (workspace .exit) ≡ cleared (now (workspace .entry)) ⌝ }
+{
+    matrix::zeros(workspace);
+}
+
+// Adds a sample to the normal equations in a workspace: `ext` is its design row of d cells, and then its target.
+// For the models.
+pub fn add_row(workspace: &mut [f64], d: usize, ext: &[f64])
+    requires { ⌜ Workspace d (now workspace) × (length (now ext) ≡ d + 1) ⌝ }
+    ensures { λ _. ⌜ now (workspace .exit) ≡ withEquations d
+        (addRow (equations d (now (workspace .entry))) (now (ext .entry)))
+        (now (workspace .entry)) ⌝ }
+{
+    let half = system_length(d);
+    add_to_rows(&mut workspace[half..], ext);
+}
+
+// Adds two samples in one pass over the normal equations, to each cell the first sample's product before the
+// second's: what `add_row` does twice. For the models.
+pub fn add_two_rows(workspace: &mut [f64], d: usize, first: &[f64], second: &[f64])
+    requires { ⌜ Workspace d (now workspace) ⌝ }
+    requires { ⌜ (length (now first) ≡ d + 1) × (length (now second) ≡ d + 1) ⌝ }
+    ensures { λ _. ⌜ now (workspace .exit) ≡ withEquations d
+        (addRow (addRow (equations d (now (workspace .entry))) (now (first .entry))) (now (second .entry)))
+        (now (workspace .entry)) ⌝ }
+{
+    let half = system_length(d);
+    add_two_to_rows(&mut workspace[half..], first, second);
 }
 
 // The number of samples, the sum of their targets and of the targets' squares.
@@ -111,9 +173,9 @@ impl Sums {
         }
     }
 
-    // With one target more. For the models, whose rows are at most 1,048,576.
+    // With one target more. For the models, whose rows are within the limit.
     pub fn add(self, y: f64) -> Sums
-        requires { ⌜ self .n < 1048576 ⌝ }
+        requires { ⌜ self .n < maxRows ⌝ }
         ensures { λ r. ⌜ r ≡ plusTarget self y ⌝ }
     {
         Sums {
@@ -171,7 +233,7 @@ fn attempt(workspace: &mut [f64], d: usize, eps: f64) -> bool
     requires { ⌜ Workspace d (now workspace) ⌝ }
     ensures { λ r. ⌜ Attempted d eps (now (workspace .entry)) (now (workspace .exit)) r ⌝ }
 {
-    let half = workspace.len() / 2;
+    let half = system_length(d);
     restore(workspace, half);
     elimination::solve_inner(&mut workspace[..half], d, 1, eps)
 }
@@ -179,9 +241,13 @@ fn attempt(workspace: &mut [f64], d: usize, eps: f64) -> bool
 // Tries the ridges 1E-8, 1E-7 and so on up to 1.0.
 fn first_solved(workspace: &mut [f64], d: usize, beta: &mut [f64]) -> FirstRidge
     requires { ⌜ Workspace d (now workspace) × (length (now beta) ≡ d) ⌝ }
-    ensures { λ r. ⌜ Found (firstSolved d (kept d (now (workspace .entry))) ridges) (now (beta .entry)) (now (beta .exit)) r ⌝ }
+    ensures { λ r. ⌜ Found
+        (solutionIn d (now (workspace .entry)))
+        (now (beta .entry))
+        (now (beta .exit))
+        r ⌝ }
 {
-    let half = workspace.len() / 2;
+    let half = system_length(d);
     let mut eps = 1E-8;
     while eps <= 1.0 {
         if attempt(workspace, d, eps) {
@@ -193,12 +259,11 @@ fn first_solved(workspace: &mut [f64], d: usize, beta: &mut [f64]) -> FirstRidge
     FirstRidge::None
 }
 
-// Solves the normal equations in the second half of `workspace` with the first ridge that does: `beta`
-// gets the coefficients, or keeps what it held where none does. The workspace ends as +0.0. For the
-// models, whose order d is at most 100.
+// Solves the normal equations in `workspace` with the first ridge that does: `beta` gets the coefficients, or
+// keeps what it held where none does. The workspace ends as +0.0. For the models.
 pub fn solve(workspace: &mut [f64], d: usize, beta: &mut [f64]) -> FirstRidge
     requires { ⌜ Workspace d (now workspace) × (length (now beta) ≡ d) ⌝ }
-    ensures { λ r. ⌜ SolvedBy (firstSolved d (kept d (now (workspace .entry))) ridges) (now (workspace .entry)) (now (workspace .exit)) (now (beta .entry)) (now (beta .exit)) r ⌝ }
+    ensures { λ r. ⌜ SolvedBy d (fitSlices workspace beta) r ⌝ }
 {
     let ridge = first_solved(workspace, d, beta);
     matrix::zeros(workspace);

@@ -3,5 +3,4 @@ pub mod Absent
 pub mod Rows
 pub mod Longest
 pub mod Smallest
-pub mod Statuses
 pub mod Calls

@@ -1,4 +1,5 @@
--- The files' records from the files' longest times and the training rows, and a row's aligned time from the records. Definitions only.
+-- The files' records from the files' longest times and the training rows, and a row's aligned time from the records.
+-- Definitions only.
 use Prim.Native.Nat.{ℕ}
 use mathlib.Core.List.{List}
 use lib.ListN.{getD}

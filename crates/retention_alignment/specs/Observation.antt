@@ -22,7 +22,8 @@ observations (f ∷ fs) [] ts = []
 observations (f ∷ fs) (p ∷ ps) [] = []
 observations (f ∷ fs) (p ∷ ps) (t ∷ ts) = record { file = f; peptide = p; rt = t } ∷ observations fs ps ts
 
--- document 01's longest time of the file f: the largest of its times, each rounded up to a whole number of 32 bits; 0 where it has no row
+-- document 01's longest time of the file f: the largest of its times, each rounded up to a whole number of 32 bits; 0
+-- where it has no row
 unfoldable pub maxRt : ℕ → List Obs → ℕ
 maxRt f [] = 0
 maxRt f (o ∷ os) = max (cond (eqb (o .file) f) (ceiling 32 (o .rt)) 0) (maxRt f os)

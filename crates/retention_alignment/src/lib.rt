@@ -1,26 +1,44 @@
-// Global retention time alignment, after sage's retention_alignment.rs: a line for each file that takes its times, as shares of the file's
-// longest time, to the peptides' mean shares over all files.
+// Global retention time alignment, after sage's retention_alignment.rs: a line for each file that takes its times, as
+// shares of the file's longest time, to the peptides' mean shares over all files.
 ghost use mathlib.Core.Path.{_≡_};
 ghost use mathlib.Core.Bool.{true};
 ghost use mathlib.Core.List.{List, map};
 ghost use Prim.Native.Nat.{ℕ, _*_, _<_, _^_};
 ghost use lib.ListN.{length};
 ghost use Rattle.status.specs.Checks.{allBelow};
-ghost use Rattle.rt_matrix.specs.Cells.{recordsOf};
+ghost use Rattle.rt_matrix.specs.Columns.{EachOf, fileColumnsAt, fileColumnsOf, recordsOf};
 ghost use Rattle.retention_alignment.specs.Observation.{observations};
-ghost use Rattle.retention_alignment.specs.Alignments.{onLine, aligned};
-ghost use Rattle.retention_alignment.specs.Call.{inputAt, inputOf, slicesAt, slicesOf, longEnough, statusOf, Checked, Written, Aligned};
+ghost use Rattle.retention_alignment.specs.Alignments.{onLine, aligned as alignedRow};
+ghost use Rattle.retention_alignment.specs.Call.{
+  inputAt,
+  inputOf,
+  slicesAt,
+  slicesOf,
+  longEnough,
+  statusBy,
+  Checked,
+  Written,
+  Aligned,
+};
 
 mod times;
 
-use status::MAX_FILES;
 use matrix::FileIx;
 pub use rt_matrix::Alignment;
+use rt_matrix::FileRoom;
+use status::MAX_FILES;
 
 // What a call answers; the refused case carries the status.
 pub enum AlignAnswer {
     Accepted,
     Refused(u8),
+}
+
+// The lengths of the slices that a call writes.
+pub struct Room {
+    pub workspace: usize,
+    pub records: FileRoom,
+    pub aligned: usize,
 }
 
 // A time by the three numbers of a file's record, each operation rounded in f32.
@@ -30,7 +48,7 @@ pub fn aligned_time(max_rt: f32, slope: f32, intercept: f32, rt: f32) -> f32
     float::canonical32(rt / max_rt * slope + intercept)
 }
 
-// Writes each row's aligned time, by its file's record.
+// Writes each row's aligned time, by its file's record. The peptides' numbers are not read.
 fn align_rows(
     file: &[u32],
     rt: &[f32],
@@ -39,8 +57,14 @@ fn align_rows(
     intercept: &[f32],
     aligned: &mut [f32],
 )
-    requires { ⌜ (length (now rt) ≡ length (now file)) × (length (now aligned) ≡ length (now file)) × (allBelow (length (now «max_rt»)) (now file) ≡ true) × (length (now slope) ≡ length (now «max_rt»)) × (length (now intercept) ≡ length (now «max_rt»)) ⌝ }
-    ensures { λ _. ⌜ ((ps : List ℕ) → length ps ≡ length (now (file .entry)) → now (aligned .exit) ≡ map (Rattle.retention_alignment.specs.Alignments.aligned (recordsOf (now («max_rt» .entry)) (now (slope .entry)) (now (intercept .entry)))) (observations (now (file .entry)) ps (now (rt .entry)))) ⌝ }
+    requires { ⌜ (length (now rt) ≡ length (now file))
+        × (length (now aligned) ≡ length (now file))
+        × (allBelow (length (now «max_rt»)) (now file) ≡ true)
+        × EachOf (length (now «max_rt»)) (fileColumnsAt «max_rt» slope intercept) ⌝ }
+    ensures { λ _. ⌜ ((ps : List ℕ) → length ps ≡ length (now (file .entry))
+        → now (aligned .exit)
+        ≡ map (alignedRow (recordsOf (fileColumnsOf «max_rt» slope intercept .entry)))
+        (observations (now (file .entry)) ps (now (rt .entry)))) ⌝ }
 {
     let mut i = 0usize;
     while i < file.len() {
@@ -60,77 +84,42 @@ fn cell_count(peptides: usize, files: usize) -> usize
 }
 
 // Whether the workspace and the outputs are long enough.
-fn long_enough(
-    cells: usize,
-    files: usize,
-    rows: usize,
-    workspace: usize,
-    max_rt: usize,
-    slope: usize,
-    intercept: usize,
-    aligned: usize,
-) -> bool
-    ensures { λ r. ⌜ r ≡ longEnough cells files rows workspace «max_rt» slope intercept aligned ⌝ }
+fn long_enough(files: usize, peptides: usize, rows: usize, room: Room) -> bool
+    ensures { λ r. ⌜ r ≡ longEnough files peptides rows room ⌝ }
 {
-    if workspace < cells {
-        return false;
-    }
-    if max_rt < files {
-        return false;
-    }
-    if slope < files {
-        return false;
-    }
-    if intercept < files {
-        return false;
-    }
-    rows <= aligned
+    let workspace = status::cells_fit(peptides, files, room.workspace);
+    let records = room.records;
+    let by_file = rt_matrix::columns_long(files, records);
+    workspace & by_file & (rows <= room.aligned)
 }
 
-// The status of a call: the checks in document 01's order. Of the slices other than file and peptide only the lengths matter.
+// The status of a call: 1, 2, 3, 4, 5 or 0. Each check goes over the whole input, and the first that fails is answered.
 fn check(
     file: &[u32],
     peptide: &[u32],
-    labels: usize,
-    qs: usize,
-    rts: usize,
+    label: &[i32],
+    q: &[f32],
+    rt: &[f32],
     files: usize,
     peptides: usize,
-    workspace: usize,
-    max_rt: usize,
-    slope: usize,
-    intercept: usize,
-    aligned: usize,
+    room: Room,
 ) -> u8
-    ensures { λ r. ⌜ r ≡ statusOf (now (file .entry)) (now (peptide .entry)) labels qs rts files peptides workspace «max_rt» slope intercept aligned ⌝ }
+    ensures { λ r. ⌜ r ≡ statusBy (inputOf file peptide label q rt files peptides) room ⌝ }
 {
     let rows = file.len();
-    if !status::same_lengths(rows, peptide.len(), labels, qs, rts) {
-        return status::BAD_LENGTHS;
-    }
-    if !status::limits(files, rows, peptides) {
-        return status::PAST_LIMIT;
-    }
-    let cells = cell_count(peptides, files);
-    if !long_enough(
-        cells,
-        files,
-        rows,
-        workspace,
-        max_rt,
-        slope,
-        intercept,
-        aligned,
-    ) {
-        return status::TOO_SHORT;
-    }
-    if !status::all_below(file, files) {
-        return status::BAD_FILE;
-    }
-    if !status::all_below(peptide, peptides) {
-        return status::BAD_PEPTIDE;
-    }
-    status::ACCEPTED
+    let lengths = status::same_lengths(rows, peptide.len(), label.len(), q.len(), rt.len());
+    let limits = status::limits(files, rows, peptides);
+    let long = long_enough(files, peptides, rows, room);
+    let files_right = status::all_below(file, files);
+    let peptides_right = status::all_below(peptide, peptides);
+    status::first_failing(
+        lengths,
+        limits,
+        long,
+        status::ACCEPTED,
+        files_right,
+        peptides_right,
+    )
 }
 
 // The work of an accepted call.
@@ -150,10 +139,10 @@ fn align(
 )
     requires { ⌜ Checked
         (inputAt file peptide label q rt files peptides)
-        (slicesAt cells «max_rt» slope intercept aligned) ⌝ }
+        (slicesAt cells (fileColumnsAt «max_rt» slope intercept) aligned) ⌝ }
     ensures { λ _. ⌜ Written
         (inputOf file peptide label q rt files peptides)
-        (slicesOf cells «max_rt» slope intercept aligned .exit) ⌝ }
+        (slicesOf cells (fileColumnsOf «max_rt» slope intercept) aligned .exit) ⌝ }
 {
     let mut max = [0u32; MAX_FILES];
     times::max_rt_by_file(file, rt, &mut max[..files]);
@@ -163,8 +152,9 @@ fn align(
     matrix::zeros(cells);
 }
 
-// The alignment. Of the workspace it needs peptides × files cells, of the outputs max_rt, slope and intercept one for each file, and of aligned
-// one for each row; what is longer keeps its rest, and a refused call leaves every slice as it was.
+// The alignment. Of the workspace it needs peptides × files cells, of the outputs max_rt, slope and intercept one
+// for each file, and of aligned one for each row; what is longer keeps its rest, and a refused call leaves every
+// slice as it was.
 pub fn global_alignment(
     file: &[u32],
     peptide: &[u32],
@@ -181,23 +171,20 @@ pub fn global_alignment(
 ) -> AlignAnswer
     ensures { λ r. ⌜ Aligned
         (inputOf file peptide label q rt files peptides)
-        (slicesOf workspace «max_rt» slope intercept aligned)
+        (slicesOf workspace (fileColumnsOf «max_rt» slope intercept) aligned)
         r ⌝ }
 {
-    let status = check(
-        file,
-        peptide,
-        label.len(),
-        q.len(),
-        rt.len(),
-        files,
-        peptides,
-        workspace.len(),
-        max_rt.len(),
-        slope.len(),
-        intercept.len(),
-        aligned.len(),
-    );
+    let records = FileRoom {
+        max_rt: max_rt.len(),
+        slope: slope.len(),
+        intercept: intercept.len(),
+    };
+    let room = Room {
+        workspace: workspace.len(),
+        records,
+        aligned: aligned.len(),
+    };
+    let status = check(file, peptide, label, q, rt, files, peptides, room);
     if status != status::ACCEPTED {
         return AlignAnswer::Refused(status);
     }

@@ -1,4 +1,5 @@
--- States that are carried on row by row, one for each file, are what each file's own column of points gives: for any states and any step.
+-- States that are carried on row by row, one for each file, are what each file's own column of points gives: for any
+-- states and any step.
 use mathlib.Core.Path.{_≡_, refl, sym, ap, _∙_}
 use mathlib.Core.Bool.{Bool, true, false, cond}
 use mathlib.Core.List.{List, [], _∷_, _++_, map, foldl}

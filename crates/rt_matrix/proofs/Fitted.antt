@@ -11,8 +11,37 @@ use Rattle.matrix.specs.Rows.{rowsOf}
 use Rattle.matrix.proofs.Laws.{Wide, wide-map, wide-rowsOf}
 use Rattle.matrix.specs.Lists.{tabulate}
 use Rattle.float.specs.Number.{zero64, number, sumFrom}
-use Rattle.rt_matrix.specs.Line.{Point, share, keptRows, points, sx2Start, dot, sumX, sumY, squared, sx2, lineOf, line, lines}
-use Rattle.rt_matrix.specs.Cells.{decode, sharesOf, rowShares, afterRow, addPoint, sumsOf, Sized, Fresh, Spread, spread, addSquare, spreadsOf, xMeans, recordsFrom}
+use Rattle.rt_matrix.specs.Line.{
+  Point,
+  share,
+  keptRows,
+  points,
+  sx2Start,
+  dot,
+  sumX,
+  sumY,
+  squared,
+  sx2,
+  lineOf,
+  line,
+  lines,
+}
+use Rattle.rt_matrix.specs.Cells.{
+  decode,
+  sharesOf,
+  rowShares,
+  afterRow,
+  addPoint,
+  sumsOf,
+  Sized,
+  Fresh,
+  Spread,
+  spread,
+  addSquare,
+  spreadsOf,
+  xMeans,
+  recordsFrom,
+}
 use Rattle.rt_matrix.specs.declared.Alignment.{Alignment}
 use Rattle.rt_matrix.specs.declared.sums.Sums.{Sums}
 use Rattle.matrix.proofs.Lists.{getD-same, getD-zipWith, length-tabulate, getD-tabulate}

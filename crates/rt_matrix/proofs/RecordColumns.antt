@@ -1,15 +1,41 @@
--- The files' records, which lie in three columns, as one list.
-use mathlib.Core.Path.{_≡_, refl, ap, ap₂, _∙_}
+-- The files' records, which lie in a column for each field, as one list: the place where laws name the fields.
+use mathlib.Core.Path.{_≡_, refl, sym, ap, _∙_}
+use mathlib.Core.Bool.{Bool, true, _&&_}
 use mathlib.Core.List.{List, [], _∷_, map, zip, zipWith}
-use Prim.Native.Nat.{ℕ, _<_}
+use Prim.Native.Nat.{ℕ, _≤_, _<_}
 use native.Mathlib.Omega.{arith}
-use lib.ListN.{length, getD, set}
+use borrow.Author.Tests.{le-leb, leb-true}
+use lib.Dec.{leb}
+use lib.ListN.{length, getD, set, length-map}
+use lib.Seq.{take-at, length-take-le}
 use lib.Ieee.{Float, nan}
+use Rattle.status.proofs.Laws.{and-true}
+use Rattle.matrix.specs.Lists.{overwritten}
+use Rattle.matrix.proofs.Lists.{
+  length-zipWith,
+  getD-zipWith,
+  zipWith-set,
+  length-zip,
+  getD-zip,
+  zip-set,
+  overwrite-front,
+}
 use Rattle.rt_matrix.specs.Line.{lineOf}
-use Rattle.rt_matrix.specs.Cells.{recordsOf, recordsFrom}
+use Rattle.rt_matrix.specs.Columns.{
+  FileColumns,
+  columnsOf,
+  recordsOf,
+  writtenOver,
+  firstOf,
+  inFront,
+  EachOf,
+  EachFrom,
+  fileRoom,
+  eachLong,
+}
+use Rattle.rt_matrix.specs.Cells.{recordsFrom}
 use Rattle.rt_matrix.specs.declared.Alignment.{Alignment}
 use Rattle.rt_matrix.specs.declared.sums.Sums.{Sums}
-use Rattle.matrix.proofs.Lists.{length-zipWith, getD-zipWith, zipWith-set, length-zip, getD-zip, zip-set}
 use Rattle.rt_matrix.proofs.SumColumns.{noSums}
 
 -- what stands past the end of a list of records
@@ -22,45 +48,146 @@ row p i = record { «max_rt» = p .0; slope = p .1; intercept = i }
 abbrev fitted : ℕ × Sums → Float → Alignment
 fitted p q = lineOf (p .0) (p .1 .len) (p .1 .dot) (p .1 .«sum_x») (p .1 .«sum_y») q
 
-module _ (ms ss is : List Float) where
-  -- a store in each column
-  pub records-set : (f : ℕ) (a : Alignment) → recordsOf (set ms f (a .«max_rt»)) (set ss f (a .slope)) (set is f (a .intercept)) ≡ set (recordsOf ms ss is) f a
+-- ---- columns as a list of records
+
+-- a store in each column
+abbrev pub storedAt : ℕ → Alignment → FileColumns → FileColumns
+storedAt f a c =
+    record {
+      maxRt = set (c .maxRt) f (a .«max_rt»);
+      slope = set (c .slope) f (a .slope);
+      intercept = set (c .intercept) f (a .intercept);
+    }
+
+-- the record at a place
+abbrev pub recordAt : FileColumns → ℕ → Alignment
+recordAt c f =
+    record { «max_rt» = getD (c .maxRt) f nan; slope = getD (c .slope) f nan; intercept = getD (c .intercept) f nan }
+
+module _ (c : FileColumns) where
+  pub records-set : (f : ℕ) (a : Alignment) → recordsOf (storedAt f a c) ≡ set (recordsOf c) f a
   records-set f a =
-      ap (λ (l : List (Float × Float)). zipWith row l (set is f (a .intercept))) (zip-set ms ss f (a .«max_rt») (a .slope))
-      ∙ zipWith-set row (zip ms ss) is f (a .«max_rt», a .slope) (a .intercept)
+      ap (λ (l : List (Float × Float)). zipWith row l (set (c .intercept) f (a .intercept)))
+      (zip-set (c .maxRt) (c .slope) f (a .«max_rt») (a .slope))
+      ∙ zipWith-set row (zip (c .maxRt) (c .slope)) (c .intercept) f (a .«max_rt», a .slope) (a .intercept)
 
-  pub length-records : (n : ℕ) → length ms ≡ n → length ss ≡ n → length is ≡ n → length (recordsOf ms ss is) ≡ n
-  length-records n hm hs hi =
-      let z : length (zip ms ss) ≡ n = length-zip ms ss (omega arith) ∙ hm in
-      length-zipWith row (zip ms ss) is (omega (arith, z)) ∙ z
+  module _ (n : ℕ) (e : EachOf n c) where
+    both : length (zip (c .maxRt) (c .slope)) ≡ n
+    both = length-zip (c .maxRt) (c .slope) (omega (arith, e .maxRt, e .slope)) ∙ e .maxRt
 
-  pub records-at : (n : ℕ) → length ms ≡ n → length ss ≡ n → length is ≡ n → (f : ℕ) (d : Alignment) → f < n
-      → getD (recordsOf ms ss is) f d ≡ record { «max_rt» = getD ms f nan; slope = getD ss f nan; intercept = getD is f nan }
-  records-at n hm hs hi f d h =
-      let z : length (zip ms ss) ≡ n = length-zip ms ss (omega arith) ∙ hm in
-      getD-zipWith row (zip ms ss) is f (nan, nan) nan d (omega (arith, z)) (omega arith) ∙ ap (λ (p : Float × Float). row p (getD is f nan)) (getD-zip ms ss f nan nan (omega arith) (omega arith))
+    pub length-records : length (recordsOf c) ≡ n
+    length-records =
+        length-zipWith row (zip (c .maxRt) (c .slope)) (c .intercept) (omega (arith, both, e .intercept)) ∙ both
+
+    pub records-at : (f : ℕ) (d : Alignment) → f < n → getD (recordsOf c) f d ≡ recordAt c f
+    records-at f d h =
+        getD-zipWith row (zip (c .maxRt) (c .slope)) (c .intercept) f (nan, nan) nan d
+        (omega (arith, both))
+        (omega (arith, e .intercept))
+        ∙ ap (λ (p : Float × Float). row p (getD (c .intercept) f nan))
+        (getD-zip (c .maxRt) (c .slope) f nan nan (omega (arith, e .maxRt)) (omega (arith, e .slope)))
 
 -- the columns of records that were made of columns of one length
-pub columns-are : (ms ss is : List Float) → length ss ≡ length ms → length is ≡ length ms
-    → (map (λ a. a .«max_rt») (recordsOf ms ss is) ≡ ms) × (map (λ a. a .slope) (recordsOf ms ss is) ≡ ss) × (map (λ a. a .intercept) (recordsOf ms ss is) ≡ is)
+columns-by : (ms ss is : List Float) → length ss ≡ length ms → length is ≡ length ms
+    → columnsOf (recordsOf (record { maxRt = ms; slope = ss; intercept = is }))
+    ≡ record { maxRt = ms; slope = ss; intercept = is }
 unfolding zip zipWith
-columns-are [] [] [] hs hi = (refl, refl, refl)
-columns-are [] [] (i ∷ is) hs hi = absurd (omega arith)
-columns-are [] (s ∷ ss) is hs hi = absurd (omega arith)
-columns-are (m ∷ ms) [] is hs hi = absurd (omega arith)
-columns-are (m ∷ ms) (s ∷ ss) [] hs hi = absurd (omega arith)
-columns-are (m ∷ ms) (s ∷ ss) (i ∷ is) hs hi =
-    let r = columns-are ms ss is (omega arith) (omega arith) in
-    (ap (λ (l : List Float). m ∷ l) (r .0), ap (λ (l : List Float). s ∷ l) (r .1), ap (λ (l : List Float). i ∷ l) (r .2))
+columns-by [] [] [] hs hi = refl
+columns-by [] [] (i ∷ is) hs hi = absurd (omega arith)
+columns-by [] (s ∷ ss) is hs hi = absurd (omega arith)
+columns-by (m ∷ ms) [] is hs hi = absurd (omega arith)
+columns-by (m ∷ ms) (s ∷ ss) [] hs hi = absurd (omega arith)
+columns-by (m ∷ ms) (s ∷ ss) (i ∷ is) hs hi =
+    ap (λ (c : FileColumns). record { maxRt = m ∷ c .maxRt; slope = s ∷ c .slope; intercept = i ∷ c .intercept })
+    (columns-by ms ss is (omega arith) (omega arith))
+
+pub columns-are : (n : ℕ) (c : FileColumns) → EachOf n c → columnsOf (recordsOf c) ≡ c
+columns-are n c e =
+    columns-by (c .maxRt) (c .slope) (c .intercept) (e .slope ∙ sym (e .maxRt)) (e .intercept ∙ sym (e .maxRt))
+
+-- records that were taken apart into columns
+pub records-back : (records : List Alignment) → recordsOf (columnsOf records) ≡ records
+unfolding zip zipWith
+records-back [] = refl
+records-back (a ∷ records) = ap (λ (t : List Alignment). a ∷ t) (records-back records)
+
+-- ---- parts of columns
+
+-- columns that are long enough for more files
+pub from-less : (more n : ℕ) (c : FileColumns) → n ≤ more → EachFrom more c → EachFrom n c
+from-less more n c h l =
+    record {
+      maxRt = omega (arith, l .maxRt);
+      slope = omega (arith, l .slope);
+      intercept = omega (arith, l .intercept);
+    }
+
+-- columns that have n cells at least: their first n, and back in front of the rest
+module _ (n : ℕ) (c : FileColumns) where
+  pub first-each : EachFrom n c → EachOf n (firstOf n c)
+  first-each l =
+      record {
+        maxRt = length-take-le n (c .maxRt) (l .maxRt);
+        slope = length-take-le n (c .slope) (l .slope);
+        intercept = length-take-le n (c .intercept) (l .intercept);
+      }
+
+  pub in-front : (part : FileColumns) (records : List Alignment) → EachOf n part → recordsOf part ≡ records
+      → inFront n part c ≡ writtenOver (columnsOf records) c
+  in-front part records e w =
+      let same : part ≡ columnsOf records = sym (columns-are n part e) ∙ ap columnsOf w in
+      let maxRt-is =
+      overwrite-front (columnsOf records .maxRt) (part .maxRt) (c .maxRt) n
+      (ap (λ (d : FileColumns). d .maxRt) same) (e .maxRt) in
+      let slope-is =
+      overwrite-front (columnsOf records .slope) (part .slope) (c .slope) n
+      (ap (λ (d : FileColumns). d .slope) same) (e .slope) in
+      let intercept-is =
+      overwrite-front (columnsOf records .intercept) (part .intercept) (c .intercept) n
+      (ap (λ (d : FileColumns). d .intercept) same) (e .intercept) in
+      λ k. record { maxRt = maxRt-is k; slope = slope-is k; intercept = intercept-is k }
+
+  -- the first cells of columns that were written over
+  pub first-written : (records : List Alignment) → length records ≡ n
+      → firstOf n (writtenOver (columnsOf records) c) ≡ columnsOf records
+  first-written records l =
+      let field : (f : Alignment → Float) → length (map f records) ≡ n = λ f. length-map records f ∙ l in
+      let maxRt-is = take-at (columnsOf records .maxRt) _ n (field (λ a. a .«max_rt»)) in
+      let slope-is = take-at (columnsOf records .slope) _ n (field (λ a. a .slope)) in
+      let intercept-is = take-at (columnsOf records .intercept) _ n (field (λ a. a .intercept)) in
+      λ k. record { maxRt = maxRt-is k; slope = slope-is k; intercept = intercept-is k }
+
+-- ---- check 3 of the columns
+
+pub long-columns : (n : ℕ) (c : FileColumns) → eachLong n (fileRoom c) ≡ true → EachFrom n c
+long-columns n c e =
+    let s = and-true (leb n (length (c .maxRt)) && leb n (length (c .slope))) (leb n (length (c .intercept))) e in
+    let t = and-true (leb n (length (c .maxRt))) (leb n (length (c .slope))) (s .0) in
+    record {
+      maxRt = leb-true n (length (c .maxRt)) (t .0);
+      slope = leb-true n (length (c .slope)) (t .1);
+      intercept = leb-true n (length (c .intercept)) (s .1);
+    }
+
+pub columns-long : (n : ℕ) (c : FileColumns) → EachFrom n c → eachLong n (fileRoom c) ≡ true
+columns-long n c l =
+    simp (
+      le-leb n (length (c .maxRt)) (l .maxRt),
+      le-leb n (length (c .slope)) (l .slope),
+      le-leb n (length (c .intercept)) (l .intercept),
+    )
+
+-- ---- the records from the files' sums
 
 module _ (ms : List ℕ) (ss : List Sums) (qs : List Float) (hs : length ss ≡ length ms) (hq : length qs ≡ length ms) where
-  both : length (zip ms ss) ≡ length ms
-  both = length-zip ms ss (omega arith)
+  zipped-long : length (zip ms ss) ≡ length ms
+  zipped-long = length-zip ms ss (omega arith)
 
   pub length-from : length (recordsFrom ms ss qs) ≡ length ms
-  length-from = length-zipWith fitted (zip ms ss) qs (omega (arith, both)) ∙ both
+  length-from = length-zipWith fitted (zip ms ss) qs (omega (arith, zipped-long)) ∙ zipped-long
 
-  pub from-at : (f : ℕ) → f < length ms → getD (recordsFrom ms ss qs) f noRecord ≡ fitted (getD ms f 0, getD ss f noSums) (getD qs f nan)
+  pub from-at : (f : ℕ) → f < length ms
+      → getD (recordsFrom ms ss qs) f noRecord ≡ fitted (getD ms f 0, getD ss f noSums) (getD qs f nan)
   from-at f h =
-      getD-zipWith fitted (zip ms ss) qs f (0, noSums) nan noRecord (omega (arith, both)) (omega arith)
+      getD-zipWith fitted (zip ms ss) qs f (0, noSums) nan noRecord (omega (arith, zipped-long)) (omega arith)
       ∙ ap (λ (p : ℕ × Sums). fitted p (getD qs f nan)) (getD-zip ms ss f 0 noSums h (omega arith))

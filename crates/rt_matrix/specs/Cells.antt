@@ -6,11 +6,13 @@ use mathlib.Core.List.{List, map, zip, zipWith}
 use mathlib.Core.Option.{Option, none, some}
 use lib.ListN.{length, replicate}
 use lib.Ieee.{Float, binary64, add, mul, sub, div, eq, ofBits}
+use denote.Ref.{now}
+use Rattle.params.specs.Slice.{Held, Change, change, Slice}
 use Rattle.float.specs.Value.{isNormal}
 use Rattle.matrix.specs.Rows.{rowsOf}
 use Rattle.float.specs.Number.{number, zero64}
 use Rattle.matrix.specs.Lists.{zipped}
-use Rattle.rt_matrix.specs.Line.{share, mean, squared, lineOf, sx2Start}
+use Rattle.rt_matrix.specs.Line.{share, mean, squared, lineOf, lines, sx2Start}
 use Rattle.rt_matrix.specs.declared.sums.Sums.{Sums}
 use Rattle.rt_matrix.specs.declared.Alignment.{Alignment}
 
@@ -29,6 +31,10 @@ sharesOf ms row = zipWith share ms (map decode row)
 -- the rows of a matrix of cells as shares of the files' longest times
 abbrev pub rowShares : List ℕ → ℕ → List Float → List (List (Option Float))
 rowShares ms n cells = map (sharesOf ms) (rowsOf (length ms) n cells)
+
+-- the record of each file, from the files' longest times and the matrix of cells
+abbrev pub linesFrom : List ℕ → ℕ → List Float → List Alignment
+linesFrom ms n cells = lines ms (map (map decode) (rowsOf (length ms) n cells))
 
 -- a file's state after a cell of a row with the mean y: where it holds a time x, one step by x and y
 unfoldable pub atCell : {A : Type 0} → (A → Float → Float → A) → Float → A → Option Float → A
@@ -52,7 +58,10 @@ addPoint s x y =
 -- four columns of sums as one list
 abbrev pub sumsOf : List ℕ → List Float → List Float → List Float → List Sums
 sumsOf ns ds xs ys =
-    zipWith (λ (p : ℕ × Float) (q : Float × Float). record { len = p .0; dot = p .1; «sum_x» = q .0; «sum_y» = q .1 }) (zip ns ds) (zip xs ys)
+    zipWith
+    (λ (p : ℕ × Float) (q : Float × Float). record { len = p .0; dot = p .1; «sum_x» = q .0; «sum_y» = q .1 })
+    (zip ns ds)
+    (zip xs ys)
 
 -- the four columns have n cells each
 pub record Sized (n : ℕ) (ns : List ℕ) (ds xs ys : List Float) : Type 0 where
@@ -92,8 +101,34 @@ pub record Fresh (n : ℕ) (ns : List ℕ) (ds xs ys ms ss : List Float) : Type 
 
 -- the record of each file, from its longest time, its sums and its squares
 abbrev pub recordsFrom : List ℕ → List Sums → List Float → List Alignment
-recordsFrom ms ss qs = zipWith (λ (p : ℕ × Sums) q. lineOf (p .0) (p .1 .len) (p .1 .dot) (p .1 .«sum_x») (p .1 .«sum_y») q) (zip ms ss) qs
+recordsFrom ms ss qs =
+    zipWith
+    (λ (p : ℕ × Sums) q. lineOf (p .0) (p .1 .len) (p .1 .dot) (p .1 .«sum_x») (p .1 .«sum_y») q)
+    (zip ms ss)
+    qs
 
--- three columns of records as one list
-abbrev pub recordsOf : List Float → List Float → List Float → List Alignment
-recordsOf ms ss is = zipWith (λ (p : Float × Float) i. record { «max_rt» = p .0; slope = p .1; intercept = i }) (zip ms ss) is
+-- ---- as a function's parameters hold them
+
+-- the four columns of sums, and that they have n cells each, in a `requires`
+abbrev pub sumsAt : (len : Held ℕ) (dot sumX sumY : Held Float) → List Sums
+sumsAt len dot sumX sumY = sumsOf (now len) (now dot) (now sumX) (now sumY)
+
+abbrev pub SizedAt : (n : ℕ) → (len : Held ℕ) (dot sumX sumY : Held Float) → Type 0
+SizedAt n len dot sumX sumY = Sized n (now len) (now dot) (now sumX) (now sumY)
+
+-- in an `ensures`: the columns of sums, a file's mean with its squares, and a peptide's shares or those of all peptides
+abbrev pub sumsIn : (len : Slice ℕ) (dot sumX sumY : Slice Float) → Change (List Sums)
+sumsIn len dot sumX sumY =
+    change
+    (sumsAt (len .entry) (dot .entry) (sumX .entry) (sumY .entry))
+    (sumsAt (len .exit) (dot .exit) (sumX .exit) (sumY .exit))
+
+abbrev pub spreadsIn : (xMean sx2 : Slice Float) → Change (List Spread)
+spreadsIn xMean sx2 =
+    change (spreadsOf (now (xMean .entry)) (now (sx2 .entry))) (spreadsOf (now (xMean .entry)) (now (sx2 .exit)))
+
+abbrev pub sharesIn : (max : Slice ℕ) (row : Slice Float) → List (Option Float)
+sharesIn max row = sharesOf (now (max .entry)) (now (row .entry))
+
+abbrev pub rowSharesIn : (max : Slice ℕ) (peptides : ℕ) (cells : Slice Float) → List (List (Option Float))
+rowSharesIn max peptides cells = rowShares (now (max .entry)) peptides (now (cells .entry))

@@ -76,14 +76,19 @@ sx2 m ps = sumFrom sx2Start (map (λ p. squared m (p .x)) ps)
 unfoldable pub finiteOr : Float → Float → Float
 finiteOr d x = cond (isFinite x) x d
 
--- The record of a file with the longest time m, from the sums over its n points. The intercept goes by the slope as it was worked out.
+-- The record of a file with the longest time m, from the sums over its n points. The intercept goes by the slope as
+-- it was worked out.
 unfoldable pub lineOf : ℕ → ℕ → Float → Float → Float → Float → Alignment
 lineOf m n dot sumX sumY sx2 =
     let xMean = div binary64 sumX (number n) in
     let yMean = div binary64 sumY (number n) in
     let slope = div binary64 (sub binary64 dot (mul binary64 (mul binary64 (number n) xMean) yMean)) sx2 in
     let intercept = sub binary64 yMean (mul binary64 slope xMean) in
-    record { «max_rt» = narrowed (number m); slope = narrowed (finiteOr one64 slope); intercept = narrowed (finiteOr zero64 intercept) }
+    record {
+      «max_rt» = narrowed (number m);
+      slope = narrowed (finiteOr one64 slope);
+      intercept = narrowed (finiteOr zero64 intercept);
+    }
 
 -- the record of a file with the longest time m, from its points
 unfoldable pub line : ℕ → List Point → Alignment

@@ -1,21 +1,21 @@
-// The lines of the alignment, after rt_matrix and global_alignment of sage's retention_alignment.rs. The matrix has a row of cells for each
-// peptide and in it a cell for each file: the peptide's smallest time there, or ABSENT. No room is given for the peptides' means, so a file's
-// sums are kept in a column of local arrays while the peptides go by, and each pass works out the means anew.
+// The lines of the alignment, after rt_matrix and global_alignment of sage's retention_alignment.rs. The matrix has a
+// row of cells for each peptide and in it a cell for each file: the peptide's smallest time there, or ABSENT. No room
+// is given for the peptides' means, so a file's sums are kept in a column of local arrays while the peptides go by,
+// and each pass works out the means anew.
 ghost use mathlib.Core.Path.{_≡_};
-ghost use mathlib.Core.List.{map};
 ghost use Prim.Native.Nat.{_*_, _<_, _≤_, _^_};
 ghost use lib.ListN.{length};
 ghost use Rattle.status.specs.Limits.{maxFiles};
-ghost use Rattle.matrix.specs.Rows.{rowsOf};
-ghost use Rattle.rt_matrix.specs.Line.{finiteOr, lineOf, lines};
-ghost use Rattle.rt_matrix.specs.Cells.{decode, sumsOf, recordsOf, recordsFrom, Sized, Fresh};
+ghost use Rattle.rt_matrix.specs.Line.{finiteOr, lineOf};
+ghost use Rattle.rt_matrix.specs.Cells.{linesFrom, recordsFrom, sumsIn, SizedAt, Fresh};
+ghost use Rattle.rt_matrix.specs.Columns.{EachOf, eachLong, fileColumnsAt, fileColumnsOf, recordsOf};
 
 mod mean;
 mod squares;
 mod sums;
 
-use status::MAX_FILES;
 pub use mean::ABSENT;
+use status::MAX_FILES;
 use sums::Sums;
 
 // A file's record: its longest time, and its line. Hosts pass lists of it, hence the layout of C.
@@ -24,6 +24,20 @@ pub struct Alignment {
     pub max_rt: f32,
     pub slope: f32,
     pub intercept: f32,
+}
+
+// The lengths of the columns that hold the files' records.
+pub struct FileRoom {
+    pub max_rt: usize,
+    pub slope: usize,
+    pub intercept: usize,
+}
+
+// Whether each of the columns of these lengths has a cell for each file.
+pub fn columns_long(files: usize, room: FileRoom) -> bool
+    ensures { λ r. ⌜ r ≡ eachLong files room ⌝ }
+{
+    (files <= room.max_rt) & (files <= room.slope) & (files <= room.intercept)
 }
 
 // x, or d where x is not finite.
@@ -36,8 +50,8 @@ fn finite_or(x: f64, d: f64) -> f64
     d
 }
 
-// The record of a file with the longest time max, from the sums over its points: the intercept from the raw slope. The one place that
-// works a record out.
+// The record of a file with the longest time max, from the sums over its points: the intercept from the raw slope. The
+// one place that works a record out.
 fn fit_line(max: u32, s: Sums, sx2: f64) -> Alignment
     ensures { λ r. ⌜ r ≡ lineOf max (s .len) (s .dot) (s .«sum_x») (s .«sum_y») sx2 ⌝ }
 {
@@ -66,8 +80,11 @@ fn store_alignments(
     slope: &mut [f32],
     intercept: &mut [f32],
 )
-    requires { ⌜ Sized (length (now max)) (now len) (now dot) (now «sum_x») (now «sum_y») × (length (now sx2) ≡ length (now max)) × (length (now «max_rt») ≡ length (now max)) × (length (now slope) ≡ length (now max)) × (length (now intercept) ≡ length (now max)) ⌝ }
-    ensures { λ _. ⌜ recordsOf (now («max_rt» .exit)) (now (slope .exit)) (now (intercept .exit)) ≡ recordsFrom (now (max .entry)) (sumsOf (now (len .entry)) (now (dot .entry)) (now («sum_x» .entry)) (now («sum_y» .entry))) (now (sx2 .entry)) ⌝ }
+    requires { ⌜ SizedAt (length (now max)) len dot «sum_x» «sum_y»
+        × (length (now sx2) ≡ length (now max))
+        × EachOf (length (now max)) (fileColumnsAt «max_rt» slope intercept) ⌝ }
+    ensures { λ _. ⌜ recordsOf (fileColumnsOf «max_rt» slope intercept .exit)
+        ≡ recordsFrom (now (max .entry)) (sumsIn len dot «sum_x» «sum_y» .entry) (now (sx2 .entry)) ⌝ }
 {
     let mut f = 0usize;
     while f < max.len() {
@@ -88,7 +105,8 @@ fn store_alignments(
     }
 }
 
-// Writes the record of each file. The slices in between are the files' sums, means and squares as they are before the first peptide.
+// Writes the record of each file. The slices in between are the files' sums, means and squares as they are before the
+// first peptide.
 fn fit_columns(
     cells: &[f64],
     max: &[u32],
@@ -103,9 +121,20 @@ fn fit_columns(
     slope: &mut [f32],
     intercept: &mut [f32],
 )
-    requires { ⌜ Fresh (length (now max)) (now len) (now dot) (now «sum_x») (now «sum_y») (now «x_mean») (now sx2) ⌝ }
-    requires { ⌜ (length (now cells) ≡ peptides * length (now max)) × (peptides < 2 ^ 32) × (length (now max) < 2 ^ 32) × (length (now «max_rt») ≡ length (now max)) × (length (now slope) ≡ length (now max)) × (length (now intercept) ≡ length (now max)) ⌝ }
-    ensures { λ _. ⌜ recordsOf (now («max_rt» .exit)) (now (slope .exit)) (now (intercept .exit)) ≡ lines (now (max .entry)) (map (map decode) (rowsOf (length (now (max .entry))) peptides (now (cells .entry)))) ⌝ }
+    requires { ⌜ Fresh
+        (length (now max))
+        (now len)
+        (now dot)
+        (now «sum_x»)
+        (now «sum_y»)
+        (now «x_mean»)
+        (now sx2) ⌝ }
+    requires { ⌜ (length (now cells) ≡ peptides * length (now max))
+        × (peptides < 2 ^ 32)
+        × (length (now max) < 2 ^ 32)
+        × EachOf (length (now max)) (fileColumnsAt «max_rt» slope intercept) ⌝ }
+    ensures { λ _. ⌜ recordsOf (fileColumnsOf «max_rt» slope intercept .exit)
+        ≡ linesFrom (now (max .entry)) peptides (now (cells .entry)) ⌝ }
 {
     sums::add_peptides(cells, max, peptides, len, dot, sum_x, sum_y);
     squares::x_means(len, sum_x, x_mean);
@@ -113,8 +142,8 @@ fn fit_columns(
     store_alignments(max, len, dot, sum_x, sum_y, sx2, max_rt, slope, intercept);
 }
 
-// Writes the record of each file, from the files' longest times and, peptide by peptide, the smallest time in each file or ABSENT. For
-// `retention_alignment`, which knows the lengths.
+// Writes the record of each file, from the files' longest times and, peptide by peptide, the smallest time in each file
+// or ABSENT. For `retention_alignment`, which knows the lengths.
 pub fn fit_lines(
     cells: &[f64],
     max: &[u32],
@@ -123,8 +152,12 @@ pub fn fit_lines(
     slope: &mut [f32],
     intercept: &mut [f32],
 )
-    requires { ⌜ (length (now cells) ≡ peptides * length (now max)) × (peptides < 2 ^ 32) × (length (now max) ≤ maxFiles) × (length (now «max_rt») ≡ length (now max)) × (length (now slope) ≡ length (now max)) × (length (now intercept) ≡ length (now max)) ⌝ }
-    ensures { λ _. ⌜ recordsOf (now («max_rt» .exit)) (now (slope .exit)) (now (intercept .exit)) ≡ lines (now (max .entry)) (map (map decode) (rowsOf (length (now (max .entry))) peptides (now (cells .entry)))) ⌝ }
+    requires { ⌜ (length (now cells) ≡ peptides * length (now max))
+        × (peptides < 2 ^ 32)
+        × (length (now max) ≤ maxFiles)
+        × EachOf (length (now max)) (fileColumnsAt «max_rt» slope intercept) ⌝ }
+    ensures { λ _. ⌜ recordsOf (fileColumnsOf «max_rt» slope intercept .exit)
+        ≡ linesFrom (now (max .entry)) peptides (now (cells .entry)) ⌝ }
 {
     let files = max.len();
     let mut len = [0u32; MAX_FILES];

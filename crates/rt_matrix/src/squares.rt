@@ -6,7 +6,17 @@ ghost use lib.ListN.{length};
 ghost use lib.Ieee.{Float};
 ghost use Rattle.rt_matrix.specs.Line.{share};
 ghost use Rattle.matrix.specs.Lists.{zipped};
-ghost use Rattle.rt_matrix.specs.Cells.{decode, sharesOf, rowShares, atCell, afterRow, spread, addSquare, spreadsOf, xMeans};
+ghost use Rattle.rt_matrix.specs.Cells.{
+  decode,
+  sharesIn,
+  rowSharesIn,
+  atCell,
+  afterRow,
+  spread,
+  addSquare,
+  spreadsIn,
+  xMeans,
+};
 use crate::mean;
 
 // The mean of each file's times.
@@ -23,7 +33,8 @@ pub(crate) fn x_means(len: &[u32], sum_x: &[f64], x_mean: &mut [f64])
 
 // A file's squares after a cell. It goes by no peptide's mean, so the contract holds for every y.
 fn add_cell(sx2: f64, x_mean: f64, cell: f64, max: u32) -> f64
-    ensures { λ r. ⌜ ((y : Float) → spread «x_mean» r ≡ atCell addSquare y (spread «x_mean» sx2) (share max (decode cell))) ⌝ }
+    ensures { λ r. ⌜ ((y : Float)
+        → spread «x_mean» r ≡ atCell addSquare y (spread «x_mean» sx2) (share max (decode cell))) ⌝ }
 {
     if cell == mean::ABSENT {
         return sx2;
@@ -34,8 +45,12 @@ fn add_cell(sx2: f64, x_mean: f64, cell: f64, max: u32) -> f64
 
 // The files' squares after a peptide's row.
 fn add_row(row: &[f64], max: &[u32], x_mean: &[f64], sx2: &mut [f64])
-    requires { ⌜ (length (now row) ≡ length (now max)) × (length (now «x_mean») ≡ length (now max)) × (length (now sx2) ≡ length (now max)) ⌝ }
-    ensures { λ _. ⌜ ((y : Float) → spreadsOf (now («x_mean» .entry)) (now (sx2 .exit)) ≡ zipped (atCell addSquare y) (spreadsOf (now («x_mean» .entry)) (now (sx2 .entry))) (sharesOf (now (max .entry)) (now (row .entry)))) ⌝ }
+    requires { ⌜ (length (now row) ≡ length (now max))
+        × (length (now «x_mean») ≡ length (now max))
+        × (length (now sx2) ≡ length (now max)) ⌝ }
+    ensures { λ _. ⌜ ((y : Float)
+        → spreadsIn «x_mean» sx2 .exit
+        ≡ zipped (atCell addSquare y) (spreadsIn «x_mean» sx2 .entry) (sharesIn max row)) ⌝ }
 {
     let mut f = 0usize;
     while f < row.len() {
@@ -46,8 +61,12 @@ fn add_row(row: &[f64], max: &[u32], x_mean: &[f64], sx2: &mut [f64])
 
 // The files' squares after a peptide's row: a peptide whose mean is not a normal number is dropped.
 fn add_peptide(row: &[f64], max: &[u32], x_mean: &[f64], sx2: &mut [f64])
-    requires { ⌜ (length (now row) ≡ length (now max)) × (length (now «x_mean») ≡ length (now max)) × (length (now sx2) ≡ length (now max)) × (length (now max) < 2 ^ 32) ⌝ }
-    ensures { λ _. ⌜ spreadsOf (now («x_mean» .entry)) (now (sx2 .exit)) ≡ afterRow addSquare (spreadsOf (now («x_mean» .entry)) (now (sx2 .entry))) (sharesOf (now (max .entry)) (now (row .entry))) ⌝ }
+    requires { ⌜ (length (now row) ≡ length (now max))
+        × (length (now «x_mean») ≡ length (now max))
+        × (length (now sx2) ≡ length (now max))
+        × (length (now max) < 2 ^ 32) ⌝ }
+    ensures { λ _. ⌜ spreadsIn «x_mean» sx2 .exit
+        ≡ afterRow addSquare (spreadsIn «x_mean» sx2 .entry) (sharesIn max row) ⌝ }
 {
     let y = mean::row_mean(row, max);
     if float::is_normal64(y) {
@@ -63,8 +82,12 @@ pub(crate) fn add_peptides(
     x_mean: &[f64],
     sx2: &mut [f64],
 )
-    requires { ⌜ (length (now cells) ≡ peptides * length (now max)) × (length (now «x_mean») ≡ length (now max)) × (length (now sx2) ≡ length (now max)) × (length (now max) < 2 ^ 32) ⌝ }
-    ensures { λ _. ⌜ spreadsOf (now («x_mean» .entry)) (now (sx2 .exit)) ≡ foldl (afterRow addSquare) (spreadsOf (now («x_mean» .entry)) (now (sx2 .entry))) (rowShares (now (max .entry)) peptides (now (cells .entry))) ⌝ }
+    requires { ⌜ (length (now cells) ≡ peptides * length (now max))
+        × (length (now «x_mean») ≡ length (now max))
+        × (length (now sx2) ≡ length (now max))
+        × (length (now max) < 2 ^ 32) ⌝ }
+    ensures { λ _. ⌜ spreadsIn «x_mean» sx2 .exit
+        ≡ foldl (afterRow addSquare) (spreadsIn «x_mean» sx2 .entry) (rowSharesIn max peptides cells) ⌝ }
 {
     let files = max.len();
     let mut at = 0usize;

@@ -5,7 +5,16 @@ ghost use Prim.Native.Nat.{ℕ, _+_, _*_, _<_, _^_};
 ghost use lib.ListN.{length, getD};
 ghost use Rattle.rt_matrix.specs.Line.{share};
 ghost use Rattle.matrix.specs.Lists.{zipped};
-ghost use Rattle.rt_matrix.specs.Cells.{decode, sharesOf, rowShares, atCell, afterRow, addPoint, sumsOf, Sized};
+ghost use Rattle.rt_matrix.specs.Cells.{
+  decode,
+  sharesIn,
+  rowSharesIn,
+  atCell,
+  afterRow,
+  addPoint,
+  sumsIn,
+  SizedAt,
+};
 use crate::mean;
 
 // A file's points: how many, and the sums of x times y, of x and of y.
@@ -43,8 +52,11 @@ fn add_row(
     sum_x: &mut [f64],
     sum_y: &mut [f64],
 )
-    requires { ⌜ (length (now row) ≡ length (now max)) × Sized (length (now max)) (now len) (now dot) (now «sum_x») (now «sum_y») × ((k : ℕ) → getD (now len) k 0 + 1 < 2 ^ 32) ⌝ }
-    ensures { λ _. ⌜ sumsOf (now (len .exit)) (now (dot .exit)) (now («sum_x» .exit)) (now («sum_y» .exit)) ≡ zipped (atCell addPoint y) (sumsOf (now (len .entry)) (now (dot .entry)) (now («sum_x» .entry)) (now («sum_y» .entry))) (sharesOf (now (max .entry)) (now (row .entry))) ⌝ }
+    requires { ⌜ (length (now row) ≡ length (now max))
+        × SizedAt (length (now max)) len dot «sum_x» «sum_y»
+        × ((k : ℕ) → getD (now len) k 0 + 1 < 2 ^ 32) ⌝ }
+    ensures { λ _. ⌜ sumsIn len dot «sum_x» «sum_y» .exit
+        ≡ zipped (atCell addPoint y) (sumsIn len dot «sum_x» «sum_y» .entry) (sharesIn max row) ⌝ }
 {
     let mut f = 0usize;
     while f < row.len() {
@@ -76,8 +88,12 @@ fn add_peptide(
     sum_x: &mut [f64],
     sum_y: &mut [f64],
 )
-    requires { ⌜ (length (now row) ≡ length (now max)) × Sized (length (now max)) (now len) (now dot) (now «sum_x») (now «sum_y») × ((k : ℕ) → getD (now len) k 0 + 1 < 2 ^ 32) × (length (now max) < 2 ^ 32) ⌝ }
-    ensures { λ _. ⌜ sumsOf (now (len .exit)) (now (dot .exit)) (now («sum_x» .exit)) (now («sum_y» .exit)) ≡ afterRow addPoint (sumsOf (now (len .entry)) (now (dot .entry)) (now («sum_x» .entry)) (now («sum_y» .entry))) (sharesOf (now (max .entry)) (now (row .entry))) ⌝ }
+    requires { ⌜ (length (now row) ≡ length (now max))
+        × SizedAt (length (now max)) len dot «sum_x» «sum_y»
+        × ((k : ℕ) → getD (now len) k 0 + 1 < 2 ^ 32)
+        × (length (now max) < 2 ^ 32) ⌝ }
+    ensures { λ _. ⌜ sumsIn len dot «sum_x» «sum_y» .exit
+        ≡ afterRow addPoint (sumsIn len dot «sum_x» «sum_y» .entry) (sharesIn max row) ⌝ }
 {
     let y = mean::row_mean(row, max);
     if float::is_normal64(y) {
@@ -95,8 +111,12 @@ pub(crate) fn add_peptides(
     sum_x: &mut [f64],
     sum_y: &mut [f64],
 )
-    requires { ⌜ (length (now cells) ≡ peptides * length (now max)) × Sized (length (now max)) (now len) (now dot) (now «sum_x») (now «sum_y») × ((k : ℕ) → getD (now len) k 0 + peptides < 2 ^ 32) × (length (now max) < 2 ^ 32) ⌝ }
-    ensures { λ _. ⌜ sumsOf (now (len .exit)) (now (dot .exit)) (now («sum_x» .exit)) (now («sum_y» .exit)) ≡ foldl (afterRow addPoint) (sumsOf (now (len .entry)) (now (dot .entry)) (now («sum_x» .entry)) (now («sum_y» .entry))) (rowShares (now (max .entry)) peptides (now (cells .entry))) ⌝ }
+    requires { ⌜ (length (now cells) ≡ peptides * length (now max))
+        × SizedAt (length (now max)) len dot «sum_x» «sum_y»
+        × ((k : ℕ) → getD (now len) k 0 + peptides < 2 ^ 32)
+        × (length (now max) < 2 ^ 32) ⌝ }
+    ensures { λ _. ⌜ sumsIn len dot «sum_x» «sum_y» .exit
+        ≡ foldl (afterRow addPoint) (sumsIn len dot «sum_x» «sum_y» .entry) (rowSharesIn max peptides cells) ⌝ }
 {
     let files = max.len();
     let mut at = 0usize;

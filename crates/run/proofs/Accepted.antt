@@ -1,11 +1,10 @@
 -- What a run that is accepted has passed, and that its three parts accept what they are passed.
 use mathlib.Core.Path.{_≡_, refl, sym, ap, _∙_}
-use mathlib.Core.Bool.{Bool, true, false, _&&_, cond}
+use mathlib.Core.Bool.{Bool, true, _&&_, cond}
 use mathlib.Core.List.{List, [], _∷_}
-use Prim.Native.Nat.{ℕ, zero, suc, _*_, _≤_, _<_, max}
+use Prim.Native.Nat.{ℕ, _*_, _≤_, _<_, max}
 use native.Mathlib.Omega.{arith}
 use lib.Dec.{eqb, leb}
-use lib.Ieee.{Float}
 use lib.ListN.{length, getD}
 use borrow.Author.Tests.{eq-eqb, le-leb, leb-true}
 use Rattle.status.specs.Checks.{every, lengthsAgree, allBelow}
@@ -16,59 +15,60 @@ use Rattle.status.proofs.First.{passed-at}
 use Rattle.feature.proofs.Training.{Columns}
 use Rattle.peptide.specs.Table.{offsetsRight, lettersRight, tableStatus}
 use Rattle.peptide.proofs.Laws.{status-by}
-use Rattle.retention_alignment.specs.Call.{longEnough as alignLongEnough, statusOf as alignStatus}
-use Rattle.retention_alignment.proofs.Statuses.{fails-none}
+use Rattle.rt_matrix.specs.Columns.{eachLong}
+use Rattle.retention_alignment.specs.Call.{Input as AlignInput, statusBy as alignStatus}
+use Rattle.retention_alignment.specs.declared.Room.{Room as AlignRoom}
 use Rattle.embedding.specs.Design.{orderOf}
 use Rattle.embedding.specs.declared.Model.{Model}
 use Rattle.embedding.specs.declared.Model.the-variants.{Retention, Mobility}
-use Rattle.model_fit.specs.Input.{Input as ModelInput, inputOf, columnsAgree as modelColumns, lengthsRight, fitRoom, workspaceCells, statusOf}
+use Rattle.regression.specs.Workspace.{workspaceCells}
+use Rattle.model_fit.specs.Input.{Input as ModelInput, lengthsRight, statusBy as modelStatus}
 use Rattle.model_fit.proofs.Status.{status-is}
-use Rattle.models.specs.Call.{predictRoom, predictStatus}
-use Rattle.run.specs.Call.{Input, Slices, peptides, columnsAgree, neededCells, longEnough, roomOf, checks, statusBy, status}
+use Rattle.models.specs.Call.{predictRoom}
+use Rattle.run.specs.Call.{
+  Input,
+  peptides,
+  columnsAgree,
+  neededCells,
+  modelLong,
+  longEnough,
+  checks,
+  statusBy,
+}
+use Rattle.run.specs.declared.checks.ModelRoom.{ModelRoom}
 use Rattle.run.specs.declared.checks.Room.{Room}
 
 -- ---- what was passed
 
+-- the slices are long enough, one by one
 pub record Long (files peptides rows : ℕ) (room : Room) : Type 0 where
   pub cells : peptides * files ≤ room .workspace
-  pub fit-cells : 20200 ≤ room .workspace
-  pub max-rt : files ≤ room .«max_rt»
-  pub slope : files ≤ room .slope
-  pub intercept : files ≤ room .intercept
+  pub fit-cells : workspaceCells (orderOf Mobility) ≤ room .workspace
+  pub records : eachLong files (room .records) ≡ true
   pub aligned : rows ≤ room .aligned
-  pub retention-predicted : rows ≤ room .«retention_predicted»
-  pub retention-error : rows ≤ room .«retention_error»
-  pub mobility-predicted : rows ≤ room .«mobility_predicted»
-  pub mobility-error : rows ≤ room .«mobility_error»
-  pub retention-beta : 69 ≤ room .«retention_beta»
-  pub mobility-beta : 100 ≤ room .«mobility_beta»
+  pub retention : modelLong Retention rows (room .retention) ≡ true
+  pub mobility : modelLong Mobility rows (room .mobility) ≡ true
 
-long-is : (files peptides rows : ℕ) (room : Room) → longEnough files peptides rows room ≡ true → Long files peptides rows room
+long-is : (files peptides rows : ℕ) (room : Room) → longEnough files peptides rows room ≡ true
+    → Long files peptides rows room
 long-is f p n r e =
-    let x = and-true (leb (neededCells f p) (r .workspace) && (leb f (r .«max_rt») && leb f (r .slope) && leb f (r .intercept)) && (leb n (r .aligned) && leb n (r .«retention_predicted») && leb n (r .«retention_error») && leb n (r .«mobility_predicted») && leb n (r .«mobility_error»))) (leb 69 (r .«retention_beta») && leb 100 (r .«mobility_beta»)) e in
-    let y = and-true (leb (neededCells f p) (r .workspace) && (leb f (r .«max_rt») && leb f (r .slope) && leb f (r .intercept))) (leb n (r .aligned) && leb n (r .«retention_predicted») && leb n (r .«retention_error») && leb n (r .«mobility_predicted») && leb n (r .«mobility_error»)) (x .0) in
-    let z = and-true (leb (neededCells f p) (r .workspace)) (leb f (r .«max_rt») && leb f (r .slope) && leb f (r .intercept)) (y .0) in
-    let b = and-true (leb 69 (r .«retention_beta»)) (leb 100 (r .«mobility_beta»)) (x .1) in
-    let f2 = and-true (leb f (r .«max_rt») && leb f (r .slope)) (leb f (r .intercept)) (z .1) in
-    let f1 = and-true (leb f (r .«max_rt»)) (leb f (r .slope)) (f2 .0) in
-    let n4 = and-true (leb n (r .aligned) && leb n (r .«retention_predicted») && leb n (r .«retention_error») && leb n (r .«mobility_predicted»)) (leb n (r .«mobility_error»)) (y .1) in
-    let n3 = and-true (leb n (r .aligned) && leb n (r .«retention_predicted») && leb n (r .«retention_error»)) (leb n (r .«mobility_predicted»)) (n4 .0) in
-    let n2 = and-true (leb n (r .aligned) && leb n (r .«retention_predicted»)) (leb n (r .«retention_error»)) (n3 .0) in
-    let n1 = and-true (leb n (r .aligned)) (leb n (r .«retention_predicted»)) (n2 .0) in
-    let w : neededCells f p ≤ r .workspace = leb-true (neededCells f p) (r .workspace) (z .0) in
+    let workspace : Bool = leb (neededCells f p) (r .workspace) in
+    let records : Bool = eachLong f (r .records) in
+    let aligned : Bool = leb n (r .aligned) in
+    let retention : Bool = modelLong Retention n (r .retention) in
+    let mobility : Bool = modelLong Mobility n (r .mobility) in
+    let d = and-true (workspace && records && aligned && retention) mobility e in
+    let c = and-true (workspace && records && aligned) retention (d .0) in
+    let b = and-true (workspace && records) aligned (c .0) in
+    let a = and-true workspace records (b .0) in
+    let w : neededCells f p ≤ r .workspace = leb-true (neededCells f p) (r .workspace) (a .0) in
     record {
       cells = omega arith;
       fit-cells = omega arith;
-      max-rt = leb-true f (r .«max_rt») (f1 .0);
-      slope = leb-true f (r .slope) (f1 .1);
-      intercept = leb-true f (r .intercept) (f2 .1);
-      aligned = leb-true n (r .aligned) (n1 .0);
-      retention-predicted = leb-true n (r .«retention_predicted») (n1 .1);
-      retention-error = leb-true n (r .«retention_error») (n2 .1);
-      mobility-predicted = leb-true n (r .«mobility_predicted») (n3 .1);
-      mobility-error = leb-true n (r .«mobility_error») (n4 .1);
-      retention-beta = leb-true 69 (r .«retention_beta») (b .0);
-      mobility-beta = leb-true 100 (r .«mobility_beta») (b .1);
+      records = a .1;
+      aligned = leb-true n (r .aligned) (b .1);
+      retention = c .1;
+      mobility = d .1;
     }
 
 pub record Passed (i : Input) (room : Room) : Type 0 where
@@ -89,8 +89,16 @@ module _ (i : Input) (room : Room) (accept : statusBy i room ≡ accepted) where
   pub passed : Passed i room
   passed =
       let n : ℕ = length (i .file) in
-      let ls : List ℕ = length (i .peptide) ∷ length (i .label) ∷ length (i .q) ∷ length (i .rt) ∷ length (i .charge) ∷ length (i .mobility) ∷ [] in
-      let t = and-true (lengthsAgree n ls) (lengthsAgree (peptides i) (length (i .table .logs) ∷ [])) (check-at 0 (omega arith)) in
+      let ls : List ℕ =
+      length (i .peptide)
+      ∷ length (i .label)
+      ∷ length (i .q)
+      ∷ length (i .rt)
+      ∷ length (i .charge)
+      ∷ length (i .mobility)
+      ∷ [] in
+      let logs : Bool = lengthsAgree (peptides i) (length (i .table .logs) ∷ []) in
+      let t = and-true (lengthsAgree n ls) logs (check-at 0 (omega arith)) in
       record {
         columns =
             record {
@@ -113,18 +121,40 @@ module _ (i : Input) (room : Room) (accept : statusBy i room ≡ accepted) where
 
 -- ---- the alignment accepts
 
+abbrev pub alignInput : Input → AlignInput
+alignInput i =
+    record {
+      file = i .file;
+      peptide = i .peptide;
+      label = i .label;
+      q = i .q;
+      rt = i .rt;
+      files = i .files;
+      peptides = peptides i;
+    }
+
+abbrev alignRoom : Room → AlignRoom
+alignRoom room = record { workspace = room .workspace; records = room .records; aligned = room .aligned }
+
 module _ (i : Input) (room : Room) (p : Passed i room) where
-  pub align-accepts : alignStatus (i .file) (i .peptide) (length (i .label)) (length (i .q)) (length (i .rt)) (i .files) (peptides i) (room .workspace) (room .«max_rt») (room .slope) (room .intercept) (room .aligned) ≡ accepted
+  pub align-accepts : alignStatus (alignInput i) (alignRoom room) ≡ accepted
   unfolding alignStatus every
   align-accepts =
       let k = p .columns in
       let l = p .long in
-      sym (fails-none _ _ _ _ _
-      (rw (eq-eqb _ _ (k .peptides-long), eq-eqb _ _ (k .labels-long), eq-eqb _ _ (k .qs-long), eq-eqb _ _ (k .rts-long)) refl)
-      (p .within)
-      (rw (le-leb _ _ (l .cells), le-leb _ _ (l .max-rt), le-leb _ _ (l .slope), le-leb _ _ (l .intercept), le-leb _ _ (l .aligned)) refl)
-      (p .file-numbers)
-      (p .peptide-numbers))
+      rw (
+        eq-eqb _ _ (k .peptides-long),
+        eq-eqb _ _ (k .labels-long),
+        eq-eqb _ _ (k .qs-long),
+        eq-eqb _ _ (k .rts-long),
+        p .within,
+        le-leb _ _ (l .cells),
+        l .records,
+        le-leb _ _ (l .aligned),
+        p .file-numbers,
+        p .peptide-numbers,
+      )
+      refl
 
   -- ---- and so do the models
 
@@ -132,11 +162,29 @@ module _ (i : Input) (room : Room) (p : Passed i room) where
   limits-too =
       let l = limits (i .files) (length (i .file)) (peptides i) (p .within) in
       let k : length (i .peptide) ≡ length (i .file) = p .columns .peptides-long in
-      rw (le-leb (length (i .peptide)) maxRows (omega (arith, l .rows-max)), le-leb (peptides i) maxPeptides (l .peptides-max)) refl
+      rw (
+        le-leb (length (i .peptide)) maxRows (omega (arith, l .rows-max)),
+        le-leb (peptides i) maxPeptides (l .peptides-max),
+      )
+      refl
 
   -- a model's call with these columns and slices
-  pub model-accepts : (model : Model) (m : ModelInput) (room' : Bool) → m .peptides ≡ i .peptide → m .table .masses ≡ i .table .masses → m .table .letters ≡ i .table .letters → m .table .offsets ≡ i .table .offsets
-      → lengthsRight model m ≡ true → room' ≡ true → statusOf model m room' ≡ accepted
-  model-accepts model m room' ep em el eo lengths r =
-      let table : accepted ≡ tableStatus (m .table .letters) (m .table .offsets) (length (m .table .masses)) = status-by _ _ _ true true _ (sym (rw (em, el, eo) (p .offsets))) (sym (rw el (p .letters))) refl in
-      sym (status-is model m room' true true 0 true (sym lengths) (sym (rw (ep, em) limits-too)) table (sym (rw (em, ep) (p .peptide-numbers)))) ∙ ap (λ (b : Bool). cond b accepted tooShort) r
+  pub model-accepts : (model : Model) (m : ModelInput) (long : Bool)
+      → m .peptides ≡ i .peptide → m .table .masses ≡ i .table .masses
+      → m .table .letters ≡ i .table .letters → m .table .offsets ≡ i .table .offsets
+      → lengthsRight model m ≡ true → long ≡ true → modelStatus model m long ≡ accepted
+  model-accepts model m long ep em el eo lengths r =
+      let table : accepted ≡ tableStatus (m .table .letters) (m .table .offsets) (length (m .table .masses)) =
+      status-by _ _ _ true true _ (sym (rw (em, el, eo) (p .offsets))) (sym (rw el (p .letters))) refl in
+      sym (status-is model m long true true 0 true
+      (sym lengths) (sym (rw (ep, em) limits-too)) table (sym (rw (em, ep) (p .peptide-numbers))))
+      ∙ ap (λ (b : Bool). cond b accepted tooShort) r
+
+-- a model's slices of these lengths are long enough for its call
+pub model-room : (model : Model) (rows workspace : ℕ) (room : ModelRoom) → modelLong model rows room ≡ true
+    → workspaceCells (orderOf model) ≤ workspace
+    → predictRoom model rows workspace (room .beta) (room .predicted) (room .error) ≡ true
+model-room model rows workspace room e h =
+    let beta : Bool = leb (orderOf model) (room .beta) in
+    let t = and-true beta (leb rows (room .predicted) && leb rows (room .error)) e in
+    rw (le-leb (workspaceCells (orderOf model)) workspace h, t .0) (t .1)

@@ -1,9 +1,9 @@
 -- Laws of the checks of a run.
-use mathlib.Core.Path.{_≡_, refl, sym, ap, _∙_}
+use mathlib.Core.Path.{_≡_, refl, sym, _∙_}
 use mathlib.Core.Bool.{Bool, true, false, _&&_}
 use mathlib.Core.List.{List, [], _∷_}
-use Prim.Native.Nat.{ℕ, zero, suc, _*_, _/_, _≤_, _<_, max}
-use native.Mathlib.Nat.{mul-zero, le-div-iff-mul-le, div-lt-iff-lt-mul, lt-of-not-le}
+use Prim.Native.Nat.{ℕ, _≤_, _<_, max}
+use native.Mathlib.Nat.{lt-of-not-le}
 use native.Mathlib.Decide.{decLe}
 use native.Mathlib.Omega.{arith}
 use lib.Dec.{leb, eqb}
@@ -18,7 +18,8 @@ use Rattle.run.specs.Call.{Input, peptides, columnsAgree, longEnough, st
 use Rattle.run.specs.declared.checks.Room.{Room}
 
 -- six lengths that agree, as four and two
-both : (a b c d e f : Bool) → ((a && (b && (c && (d && true)))) && (e && f)) ≡ (a && (b && (c && (d && (e && (f && true))))))
+both : (a b c d e f : Bool)
+    → ((a && (b && (c && (d && true)))) && (e && f)) ≡ (a && (b && (c && (d && (e && (f && true))))))
 both true true true true e f = two e f
   where
     two : (e f : Bool) → (e && f) ≡ (e && (f && true))
@@ -30,7 +31,8 @@ both true true false d e f = refl
 both true false c d e f = refl
 both false b c d e f = refl
 
-pub six-lengths : (n a b c d e f : ℕ) → (lengthsAgree n (a ∷ b ∷ c ∷ d ∷ []) && (eqb e n && eqb f n)) ≡ lengthsAgree n (a ∷ b ∷ c ∷ d ∷ e ∷ f ∷ [])
+pub six-lengths : (n a b c d e f : ℕ)
+    → (lengthsAgree n (a ∷ b ∷ c ∷ d ∷ []) && (eqb e n && eqb f n)) ≡ lengthsAgree n (a ∷ b ∷ c ∷ d ∷ e ∷ f ∷ [])
 unfolding every
 six-lengths n a b c d e f = both (eqb a n) (eqb b n) (eqb c n) (eqb d n) (eqb e n) (eqb f n)
 
@@ -42,24 +44,18 @@ one-length n a = by (eqb a n)
     by true = refl
     by false = refl
 
--- peptides × files cells, and at least so many
-pub quotient : (files peptides least w : ℕ) → 0 < files → least ≤ w → leb peptides (w / files) ≡ leb (max (peptides * files) least) w
-quotient files peptides least w h l = cases (decLe peptides (w / files))
+-- a workspace that has the least cells is long enough where it has the others
+pub with-least : (cells least w : ℕ) → least ≤ w → leb cells w ≡ leb (max cells least) w
+with-least cells least w l = cases (decLe cells w)
   where
-    cases : Dec (peptides ≤ w / files) → leb peptides (w / files) ≡ leb (max (peptides * files) least) w
-    cases (yes p) = let m : peptides * files ≤ w = le-div-iff-mul-le h .0 p in le-leb _ _ p ∙ sym (le-leb (max (peptides * files) least) w (omega arith))
-    cases (no n) = let m : w < peptides * files = div-lt-iff-lt-mul h .0 (lt-of-not-le n) in lt-leb _ _ (lt-of-not-le n) ∙ sym (lt-leb (max (peptides * files) least) w (omega arith))
-
--- without a file only the least matters
-pub no-files : (files peptides least w : ℕ) → files ≡ 0 → least ≤ w → leb (max (peptides * files) least) w ≡ true
-no-files files peptides least w e l = let z : peptides * files ≡ 0 = ap (λ (f : ℕ). peptides * f) e ∙ mul-zero peptides in le-leb (max (peptides * files) least) w (omega arith)
+    cases : Dec (cells ≤ w) → leb cells w ≡ leb (max cells least) w
+    cases (yes h) = le-leb cells w h ∙ sym (le-leb (max cells least) w (omega arith))
+    cases (no h) =
+        let g = lt-of-not-le h in
+        lt-leb cells w g ∙ sym (lt-leb (max cells least) w (omega arith))
 
 pub too-few : (cells least w : ℕ) → w < least → leb (max cells least) w ≡ false
 too-few cells least w l = lt-leb (max cells least) w (omega arith)
-
-pub positive : (n : ℕ) → (n ≡ 0 → ⊥) → 0 < n
-positive zero h = absurd (h refl)
-positive (suc n) h = omega arith
 
 -- the status, where the checks and the table's status have these values
 pub status-by : (i : Input) (room : Room) (a b c : Bool) (t : ℕ) (f g : Bool)
@@ -69,7 +65,25 @@ pub status-by : (i : Input) (room : Room) (a b c : Bool) (t : ℕ) (f g : Bool)
     → t ≡ tableStatus (i .table .letters) (i .table .offsets) (peptides i)
     → f ≡ allBelow (i .files) (i .file)
     → g ≡ allBelow (peptides i) (i .peptide)
-    → firstFailing ((badLengths, a) ∷ (pastLimit, b) ∷ (tooShort, c) ∷ (t, eqb t accepted) ∷ (badFile, f) ∷ (badPeptide, g) ∷ []) ≡ statusBy i room
+    → firstFailing
+    ((badLengths, a)
+    ∷ (pastLimit, b)
+    ∷ (tooShort, c)
+    ∷ (t, eqb t accepted)
+    ∷ (badFile, f)
+    ∷ (badPeptide, g)
+    ∷ [])
+    ≡ statusBy i room
 unfolding statusBy
 status-by i room a b c t f g one two three table four five =
-    rw (one, two, three, table, four, five, table-first (i .table .letters) (i .table .offsets) (peptides i) ((badFile, allBelow (i .files) (i .file)) ∷ (badPeptide, allBelow (peptides i) (i .peptide)) ∷ []))
+    let later : List (ℕ × Bool) =
+    (badFile, allBelow (i .files) (i .file)) ∷ (badPeptide, allBelow (peptides i) (i .peptide)) ∷ [] in
+    rw (
+      one,
+      two,
+      three,
+      table,
+      four,
+      five,
+      table-first (i .table .letters) (i .table .offsets) (peptides i) later,
+    )

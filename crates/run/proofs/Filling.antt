@@ -1,45 +1,45 @@
 -- What an accepted run leaves, from what its three parts promise.
 use mathlib.Core.Path.{_≡_, refl, sym, ap, _∙_}
-use mathlib.Core.Bool.{Bool, true, false, _&&_, cond}
-use mathlib.Core.List.{List, [], _∷_, _++_, map, zipWith, append-assoc}
+use mathlib.Core.Bool.{Bool, true, false, cond}
+use mathlib.Core.List.{List, [], _++_, map, zipWith, append-assoc}
 use Prim.Native.Nat.{ℕ, _+_, _-_, _*_, _≤_, max}
 use native.Mathlib.Decide.{decLe}
 use native.Mathlib.Nat.{lt-of-not-le}
 use native.Mathlib.Omega.{arith}
-use lib.Dec.{eqb, leb}
-use lib.IntN.{ℤ}
+use lib.Dec.{eqb}
 use lib.Ieee.{Float}
-use lib.ListN.{length, take, drop, replicate, length-map, length-replicate, replicate-append-replicate, drop-of-length-le}
+use lib.ListN.{length, take, drop, replicate, length-map, length-replicate, replicate-append-replicate}
 use lib.Seq.{take-at, drop-at, length-take-le, drop-append-add, drop-drop}
-use borrow.Author.Tests.{eq-eqb, ne-eqb, le-leb}
+use borrow.Author.Tests.{eq-eqb, ne-eqb}
 use Rattle.params.specs.Slice.{change}
-use Rattle.float.specs.Number.{zero64}
-use Rattle.feature.specs.Feature.{Row, training, mask, kept}
 use Rattle.status.specs.Checks.{every}
 use Rattle.status.specs.Status.{accepted}
+use Rattle.float.specs.Number.{zero64}
+use Rattle.matrix.specs.Lists.{overwritten}
+use Rattle.feature.specs.Feature.{Row, training}
 use Rattle.feature.proofs.Training.{Fields}
-use Rattle.peptide.specs.Table.{Table}
-use Rattle.rt_matrix.specs.declared.Alignment.{Alignment}
-use Rattle.retention_alignment.specs.Call.{Aligned}
-use Rattle.retention_alignment.specs.Call.{Slices as AlignSlices}
+use Rattle.retention_alignment.specs.Call.{Slices as AlignSlices, Aligned}
 use Rattle.retention_alignment.specs.declared.AlignAnswer.{AlignAnswer}
 use Rattle.embedding.specs.Design.{orderOf}
 use Rattle.embedding.specs.declared.Model.{Model}
 use Rattle.embedding.specs.declared.Model.the-variants.{Retention, Mobility}
-use Rattle.regression.specs.Regression.{Sample, Fit, fitOf}
-use Rattle.model_fit.specs.Input.{Input as ModelInput, Query, inputOf, tableOf, queries, columnsAgree as modelColumns, workspaceCells}
-use Rattle.model_fit.specs.Samples.{fitOn, sampleOf}
-use Rattle.matrix.specs.Lists.{overwritten}
+use Rattle.regression.specs.Regression.{Fit, fitOf}
+use Rattle.regression.specs.Workspace.{workspaceCells}
+use Rattle.model_fit.specs.Input.{Input as ModelInput, Query, inputOf, queries, columnsAgree as modelColumns}
+use Rattle.model_fit.specs.Samples.{fitOfInput}
 use Rattle.models.specs.Prediction.{predictions, errors, errorOf, isSolved, predictionOf}
-use Rattle.models.specs.Call.{PredictSlices, PredictCall, predictStatus}
+use Rattle.models.specs.Call.{ModelOutputs, PredictSlices, PredictCall, predictStatus}
 use Rattle.models.specs.declared.FitAnswer.{FitAnswer}
-use Rattle.run.specs.Fitted.{RowOutcome, ofRetention, ofMobility, target, fitted, outcome}
-use Rattle.run.specs.Call.{Input, Slices, rows, peptides, neededCells, roomOf, fittedBy, outcomes, predictionsOf, errorsOf, outcomeOf, answerOf, toldOf, toldRefused, toldBy, filled, Filled, slicesAfter, RunCall, status}
+use Rattle.run.specs.Fitted.{RowOutcome, ofRetention, ofMobility, rowQuery, target, fitted, outcome}
+use Rattle.run.specs.Call.{modelRoom, roomOf}
+use Rattle.run.specs.Call.{Input, Slices, rows, peptides, fittedBy, outcomes, predictionsOf, errorsOf}
+use Rattle.run.specs.Call.{outcomeOf, answerOf, toldBy, filled, Filled, slicesAfter, RunCall, status}
 use Rattle.run.specs.declared.RunAnswer.{RunAnswer}
 use Rattle.run.specs.declared.RunAnswer.the-variants.{Ran, Refused}
-use Rattle.run.proofs.Rows.{retention-queries, mobility-queries, samples-of, mobility-samples, mobility-predictions, predictionsFor, predictions-written, errors-written}
-use Rattle.run.proofs.Accepted.{Passed, passed, model-accepts}
-use Rattle.run.proofs.Parts.{fields, marks, targets, alignInput, alignSlices, AlignPart, align-part, ModelPart, model-part}
+use Rattle.run.proofs.Rows.{retention-queries, mobility-queries, samples-of, mobility-samples}
+use Rattle.run.proofs.Rows.{mobility-predictions, predictionsFor, predictions-written, errors-written}
+use Rattle.run.proofs.Accepted.{Passed, alignInput, model-accepts, model-room}
+use Rattle.run.proofs.Parts.{fields, marks, targets, alignSlices, AlignPart, align-part, ModelPart, model-part}
 
 -- ---- cells that are zeroed twice
 
@@ -47,162 +47,243 @@ module _ {A : Type 0} (z : A) (a b : ℕ) (ws : List A) where
   more : b ≤ a → replicate a z ++ drop a (replicate b z ++ drop b ws) ≡ replicate a z ++ drop a ws
   more h =
       let n : length (replicate b z) ≡ b = length-replicate b z in
-      ap (λ (t : List A). replicate a z ++ t) (ap (λ (k : ℕ). drop k (replicate b z ++ drop b ws)) {x = a} {y = length (replicate b z) + (a - b)} (omega arith) ∙ drop-append-add (replicate b z) (drop b ws) (a - b) ∙ drop-drop (a - b) b ws ∙ ap (λ (k : ℕ). drop k ws) {x = b + (a - b)} {y = a} (omega arith))
+      ap (λ (t : List A). replicate a z ++ t)
+      (ap (λ (k : ℕ). drop k (replicate b z ++ drop b ws)) {x = a} {y = length (replicate b z) + (a - b)} (omega arith)
+      ∙ drop-append-add (replicate b z) (drop b ws) (a - b)
+      ∙ drop-drop (a - b) b ws
+      ∙ ap (λ (k : ℕ). drop k ws) {x = b + (a - b)} {y = a} (omega arith))
 
   fewer : a ≤ b → replicate a z ++ drop a (replicate b z ++ drop b ws) ≡ replicate b z ++ drop b ws
   fewer h =
-      let e : replicate b z ≡ replicate a z ++ replicate (b - a) z = ap (λ (k : ℕ). replicate k z) {x = b} {y = a + (b - a)} (omega arith) ∙ sym (replicate-append-replicate a (b - a) z) in
+      let e : replicate b z ≡ replicate a z ++ replicate (b - a) z =
+      ap (λ (k : ℕ). replicate k z) {x = b} {y = a + (b - a)} (omega arith)
+      ∙ sym (replicate-append-replicate a (b - a) z) in
       let d : drop a (replicate b z ++ drop b ws) ≡ replicate (b - a) z ++ drop b ws =
-      ap (λ (t : List A). drop a (t ++ drop b ws)) e ∙ ap (drop a) (append-assoc (replicate a z) (replicate (b - a) z) (drop b ws)) ∙ drop-at (replicate a z) (replicate (b - a) z ++ drop b ws) a (length-replicate a z) in
-      ap (λ (t : List A). replicate a z ++ t) d ∙ sym (append-assoc (replicate a z) (replicate (b - a) z) (drop b ws)) ∙ ap (λ (t : List A). t ++ drop b ws) (sym e)
+      ap (λ (t : List A). drop a (t ++ drop b ws)) e
+      ∙ ap (drop a) (append-assoc (replicate a z) (replicate (b - a) z) (drop b ws))
+      ∙ drop-at (replicate a z) (replicate (b - a) z ++ drop b ws) a (length-replicate a z) in
+      ap (λ (t : List A). replicate a z ++ t) d
+      ∙ sym (append-assoc (replicate a z) (replicate (b - a) z) (drop b ws))
+      ∙ ap (λ (t : List A). t ++ drop b ws) (sym e)
 
-  zeroed-twice : overwritten (replicate a z) (overwritten (replicate b z) ws) ≡ overwritten (replicate (max a b) z) ws
+  zeroed-twice : overwritten (replicate a z) (overwritten (replicate b z) ws)
+      ≡ overwritten (replicate (max a b) z) ws
   zeroed-twice = rw (length-replicate a z, length-replicate b z, length-replicate (max a b) z) (by (decLe a b))
     where
-      by : Dec (a ≤ b) → replicate a z ++ drop a (replicate b z ++ drop b ws) ≡ replicate (max a b) z ++ drop (max a b) ws
+      by : Dec (a ≤ b)
+          → replicate a z ++ drop a (replicate b z ++ drop b ws) ≡ replicate (max a b) z ++ drop (max a b) ws
       by (yes h) = fewer h ∙ ap (λ (k : ℕ). replicate k z ++ drop k ws) {x = b} {y = max a b} (omega arith)
-      by (no h) = let g = lt-of-not-le h in more (omega arith) ∙ ap (λ (k : ℕ). replicate k z ++ drop k ws) {x = a} {y = max a b} (omega arith)
+      by (no h) =
+          let g = lt-of-not-le h in
+          more (omega arith) ∙ ap (λ (k : ℕ). replicate k z ++ drop k ws) {x = a} {y = max a b} (omega arith)
 
 -- ---- the models' parts
 
 module _ (i : Input) (s : Slices) (p : Passed i (roomOf s)) where
   -- what the models are passed, where the aligned times are these
   abbrev pub retentionInput : List Float → ModelInput
-  retentionInput observed = inputOf (i .peptide) (i .label) (i .q) [] observed (i .table .letters) (i .table .offsets) (i .table .masses) (i .table .logs)
+  retentionInput observed =
+      inputOf
+      (i .peptide) (i .label) (i .q) [] observed
+      (i .table .letters) (i .table .offsets) (i .table .masses) (i .table .logs)
 
   abbrev pub mobilityInput : ModelInput
-  mobilityInput = inputOf (i .peptide) (i .label) (i .q) (i .charge) (i .mobility) (i .table .letters) (i .table .offsets) (i .table .masses) []
+  mobilityInput =
+      inputOf
+      (i .peptide) (i .label) (i .q) (i .charge) (i .mobility)
+      (i .table .letters) (i .table .offsets) (i .table .masses) []
 
   -- and the slices that they get, with the workspace as it then is
   abbrev pub retentionSlices : (workspace : List Float) → PredictSlices
-  retentionSlices workspace = record { workspace = workspace; beta = s .retention .beta; predicted = s .retention .predicted; error = s .retention .error }
+  retentionSlices workspace = record { workspace = workspace; outputs = s .retention }
 
   abbrev pub mobilitySlices : (workspace : List Float) → PredictSlices
-  mobilitySlices workspace = record { workspace = workspace; beta = s .mobility .beta; predicted = s .mobility .predicted; error = s .mobility .error }
+  mobilitySlices workspace = record { workspace = workspace; outputs = s .mobility }
 
   row-count : length (rows i) ≡ length (i .file)
   row-count = sym (length-map (rows i) (λ (r : Row). r .file)) ∙ ap length (fields i (p .columns) .files-are)
 
   -- the aligned times that the alignment wrote are retention's targets
-  targets-written : (t : AlignSlices) → AlignPart i s t → take (length (i .file)) (t .aligned) ≡ map (target Retention (fittedBy i .records)) (rows i)
+  targets-written : (t : AlignSlices) → AlignPart i s t
+      → take (length (i .file)) (t .aligned) ≡ map (target Retention (fittedBy i .records)) (rows i)
   targets-written t a =
-      let n : length (map (λ (o : RowOutcome). o .aligned) (outcomes i)) ≡ length (i .file) = length-map (outcomes i) (λ (o : RowOutcome). o .aligned) ∙ length-map (rows i) (outcome (i .table) (fittedBy i)) ∙ row-count in
+      let n : length (map (λ (o : RowOutcome). o .aligned) (outcomes i)) ≡ length (i .file) =
+      length-map (outcomes i) (λ (o : RowOutcome). o .aligned)
+      ∙ length-map (rows i) (outcome (i .table) (fittedBy i))
+      ∙ row-count in
       ap (take (length (i .file))) (a .aligned) ∙ take-at _ _ (length (i .file)) n ∙ targets i s p
 
+  queries-of-retention : queries (i .peptide) [] ≡ map (rowQuery Retention) (rows i)
+  queries-of-retention =
+      retention-queries
+      (rows i) (i .file) (i .peptide) (i .label) (i .q) (i .rt) (i .charge) (i .mobility)
+      (fields i (p .columns)) (marks i (p .columns))
+
+  queries-of-mobility : queries (i .peptide) (i .charge) ≡ map (rowQuery Mobility) (rows i)
+  queries-of-mobility =
+      mobility-queries
+      (rows i) (i .file) (i .peptide) (i .label) (i .q) (i .rt) (i .charge) (i .mobility)
+      (fields i (p .columns)) (marks i (p .columns))
+
   module _ (observed : List Float) (o : observed ≡ map (target Retention (fittedBy i .records)) (rows i)) where
-    retention-fit : fitOn Retention (retentionInput observed) ≡ fittedBy i .retention
+    retention-fit : fitOfInput Retention (retentionInput observed) ≡ fittedBy i .retention
     unfolding fitted
     retention-fit =
-        let f = fields i (p .columns) in
-        let m = marks i (p .columns) in
         ap (fitOf (orderOf Retention))
-        (samples-of (rows i) (i .file) (i .peptide) (i .label) (i .q) (i .rt) (i .charge) (i .mobility) f m Retention (i .table) (fittedBy i .records) [] observed (retention-queries (rows i) (i .file) (i .peptide) (i .label) (i .q) (i .rt) (i .charge) (i .mobility) f m) o)
+        (samples-of
+        (rows i) (i .file) (i .peptide) (i .label) (i .q) (i .rt) (i .charge) (i .mobility)
+        (fields i (p .columns)) (marks i (p .columns))
+        Retention (i .table) (fittedBy i .records) [] observed queries-of-retention o)
 
-    retention-predictions : predictions Retention (retentionInput observed) ≡ predictionsFor ofRetention (i .table) (fittedBy i) (rows i)
+    retention-predictions : predictions Retention (retentionInput observed)
+        ≡ predictionsFor ofRetention (i .table) (fittedBy i) (rows i)
     retention-predictions =
-        let f = fields i (p .columns) in
-        let m = marks i (p .columns) in
-        ap (λ (x : Fit). cond (isSolved (x .outcome)) (map (predictionOf Retention (i .table) (x .beta)) (queries (i .peptide) [])) []) retention-fit
-        ∙ ap (λ (x : List Query). cond (isSolved (fittedBy i .retention .outcome)) (map (predictionOf Retention (i .table) (fittedBy i .retention .beta)) x) []) (retention-queries (rows i) (i .file) (i .peptide) (i .label) (i .q) (i .rt) (i .charge) (i .mobility) f m)
+        let beta = fittedBy i .retention .coefficients in
+        let solved = isSolved (fittedBy i .retention .outcome) in
+        ap (λ (x : Fit).
+        cond (isSolved (x .outcome))
+        (map (predictionOf Retention (i .table) (x .coefficients)) (queries (i .peptide) [])) [])
+        retention-fit
+        ∙ ap (λ (x : List Query). cond solved (map (predictionOf Retention (i .table) beta) x) []) queries-of-retention
 
     retention-errors : errors Retention (retentionInput observed) ≡ errorsOf ofRetention i
     retention-errors =
+        let predicted = predictionsFor ofRetention (i .table) (fittedBy i) (rows i) in
         ap (zipWith errorOf observed) retention-predictions
-        ∙ ap (λ (x : List Float). zipWith errorOf x (predictionsFor ofRetention (i .table) (fittedBy i) (rows i))) o
+        ∙ ap (λ (x : List Float). zipWith errorOf x predicted) o
         ∙ errors-written ofRetention (i .table) (fittedBy i) (rows i)
 
-  mobility-fit : fitOn Mobility mobilityInput ≡ fittedBy i .mobility
+  mobility-fit : fitOfInput Mobility mobilityInput ≡ fittedBy i .mobility
   unfolding fitted
   mobility-fit =
       let f = fields i (p .columns) in
-      let m = marks i (p .columns) in
       ap (fitOf (orderOf Mobility))
-      (samples-of (rows i) (i .file) (i .peptide) (i .label) (i .q) (i .rt) (i .charge) (i .mobility) f m Mobility (mobilityInput .table) (fittedBy i .records) (i .charge) (i .mobility) (mobility-queries (rows i) (i .file) (i .peptide) (i .label) (i .q) (i .rt) (i .charge) (i .mobility) f m) (sym (f .mobilities-are))
-      ∙ mobility-samples (i .table .letters) (i .table .offsets) (i .table .masses) (i .table .logs) (fittedBy i .records) (training (rows i)))
+      (samples-of
+      (rows i) (i .file) (i .peptide) (i .label) (i .q) (i .rt) (i .charge) (i .mobility) f (marks i (p .columns))
+      Mobility (mobilityInput .table) (fittedBy i .records) (i .charge) (i .mobility)
+      queries-of-mobility (sym (f .mobilities-are))
+      ∙ mobility-samples (i .table .letters) (i .table .offsets) (i .table .masses) (i .table .logs)
+      (fittedBy i .records) (training (rows i)))
 
-  mobility-predicted : predictions Mobility mobilityInput ≡ predictionsFor ofMobility (i .table) (fittedBy i) (rows i)
+  mobility-predicted : predictions Mobility mobilityInput
+      ≡ predictionsFor ofMobility (i .table) (fittedBy i) (rows i)
   mobility-predicted =
-      let f = fields i (p .columns) in
-      let m = marks i (p .columns) in
-      ap (λ (x : Fit). cond (isSolved (x .outcome)) (map (predictionOf Mobility (mobilityInput .table) (x .beta)) (queries (i .peptide) (i .charge))) []) mobility-fit
-      ∙ ap (λ (x : List Float). cond (isSolved (fittedBy i .mobility .outcome)) x []) (mobility-predictions (i .table .letters) (i .table .offsets) (i .table .masses) (i .table .logs) (fittedBy i .mobility .beta) (queries (i .peptide) (i .charge)))
-      ∙ ap (λ (x : List Query). cond (isSolved (fittedBy i .mobility .outcome)) (map (predictionOf Mobility (i .table) (fittedBy i .mobility .beta)) x) []) (mobility-queries (rows i) (i .file) (i .peptide) (i .label) (i .q) (i .rt) (i .charge) (i .mobility) f m)
+      let beta = fittedBy i .mobility .coefficients in
+      let solved = isSolved (fittedBy i .mobility .outcome) in
+      let asked = queries (i .peptide) (i .charge) in
+      ap (λ (x : Fit).
+      cond (isSolved (x .outcome)) (map (predictionOf Mobility (mobilityInput .table) (x .coefficients)) asked) [])
+      mobility-fit
+      ∙ ap (λ (x : List Float). cond solved x [])
+      (mobility-predictions (i .table .letters) (i .table .offsets) (i .table .masses) (i .table .logs) beta asked)
+      ∙ ap (λ (x : List Query). cond solved (map (predictionOf Mobility (i .table) beta) x) []) queries-of-mobility
 
   mobility-errors : errors Mobility mobilityInput ≡ errorsOf ofMobility i
   mobility-errors =
+      let predicted = predictionsFor ofMobility (i .table) (fittedBy i) (rows i) in
       ap (zipWith errorOf (i .mobility)) mobility-predicted
-      ∙ ap (λ (x : List Float). zipWith errorOf x (predictionsFor ofMobility (i .table) (fittedBy i) (rows i))) (sym (fields i (p .columns) .mobilities-are))
+      ∙ ap (λ (x : List Float). zipWith errorOf x predicted) (sym (fields i (p .columns) .mobilities-are))
       ∙ errors-written ofMobility (i .table) (fittedBy i) (rows i)
 
   -- ---- the models accept
 
-  retention-accepts : (observed ws : List Float) → length observed ≡ length (i .file) → length ws ≡ length (s .workspace)
+  retention-accepts : (observed ws : List Float) → length observed ≡ length (i .file)
+      → length ws ≡ length (s .workspace)
       → predictStatus Retention (retentionInput observed) (retentionSlices ws) ≡ accepted
   unfolding modelColumns every
   retention-accepts observed ws e w =
       let k = p .columns in
-      let l = p .long in
+      let n = sym (k .peptides-long) in
       model-accepts i (roomOf s) p Retention (retentionInput observed) _ refl refl refl refl
-      (rw (eq-eqb (length (i .label)) (length (i .peptide)) (k .labels-long ∙ sym (k .peptides-long)), eq-eqb (length (i .q)) (length (i .peptide)) (k .qs-long ∙ sym (k .peptides-long)), eq-eqb (length observed) (length (i .peptide)) (e ∙ sym (k .peptides-long)), eq-eqb (length (i .table .logs)) (length (i .table .masses)) (p .logs)) refl)
-      (rw (le-leb 9660 (length ws) (omega (arith, l .fit-cells)), le-leb 69 (length (s .retention .beta)) (l .retention-beta), le-leb (length (i .peptide)) (length (s .retention .predicted)) (omega (arith, l .retention-predicted, k .peptides-long)), le-leb (length (i .peptide)) (length (s .retention .error)) (omega (arith, l .retention-error, k .peptides-long))) refl)
+      (rw (
+        eq-eqb (length (i .label)) (length (i .peptide)) (k .labels-long ∙ n),
+        eq-eqb (length (i .q)) (length (i .peptide)) (k .qs-long ∙ n),
+        eq-eqb (length observed) (length (i .peptide)) (e ∙ n),
+        eq-eqb (length (i .table .logs)) (length (i .table .masses)) (p .logs),
+      )
+      refl)
+      (model-room Retention (length (i .peptide)) (length ws) (modelRoom (s .retention)) (rw n at (p .long .retention))
+      (omega (arith, p .long .fit-cells)))
 
   mobility-accepts : (ws : List Float) → length ws ≡ length (s .workspace)
       → predictStatus Mobility mobilityInput (mobilitySlices ws) ≡ accepted
   unfolding modelColumns every
   mobility-accepts ws w =
       let k = p .columns in
-      let l = p .long in
+      let n = sym (k .peptides-long) in
       model-accepts i (roomOf s) p Mobility mobilityInput _ refl refl refl refl
-      (rw (eq-eqb (length (i .label)) (length (i .peptide)) (k .labels-long ∙ sym (k .peptides-long)), eq-eqb (length (i .q)) (length (i .peptide)) (k .qs-long ∙ sym (k .peptides-long)), eq-eqb (length (i .charge)) (length (i .peptide)) (k .charges-long ∙ sym (k .peptides-long)), eq-eqb (length (i .mobility)) (length (i .peptide)) (k .mobilities-long ∙ sym (k .peptides-long))) refl)
-      (rw (le-leb 20200 (length ws) (omega (arith, l .fit-cells)), le-leb 100 (length (s .mobility .beta)) (l .mobility-beta), le-leb (length (i .peptide)) (length (s .mobility .predicted)) (omega (arith, l .mobility-predicted, k .peptides-long)), le-leb (length (i .peptide)) (length (s .mobility .error)) (omega (arith, l .mobility-error, k .peptides-long))) refl)
+      (rw (
+        eq-eqb (length (i .label)) (length (i .peptide)) (k .labels-long ∙ n),
+        eq-eqb (length (i .q)) (length (i .peptide)) (k .qs-long ∙ n),
+        eq-eqb (length (i .charge)) (length (i .peptide)) (k .charges-long ∙ n),
+        eq-eqb (length (i .mobility)) (length (i .peptide)) (k .mobilities-long ∙ n),
+      )
+      refl)
+      (model-room Mobility (length (i .peptide)) (length ws) (modelRoom (s .mobility)) (rw n at (p .long .mobility))
+      (omega (arith, p .long .fit-cells)))
 
   -- ---- all together
 
   -- the alignment left t, retention's call t₁, mobility's t₂
-  pub run-filled : (t : AlignSlices) (answer : AlignAnswer) → Aligned (alignInput i) (change (alignSlices s) t) answer → length (t .workspace) ≡ length (s .workspace) → length (t .aligned) ≡ length (s .aligned)
-      → (t₁ : PredictSlices) (r₁ : FitAnswer) → PredictCall Retention (retentionInput (take (length (i .file)) (t .aligned))) (change (retentionSlices (t .workspace)) t₁) r₁
+  pub run-filled : (t : AlignSlices) (answer : AlignAnswer)
+      → Aligned (alignInput i) (change (alignSlices s) t) answer
+      → length (t .workspace) ≡ length (s .workspace) → length (t .aligned) ≡ length (s .aligned)
+      → (t₁ : PredictSlices) (r₁ : FitAnswer)
+      → PredictCall Retention (retentionInput (take (length (i .file)) (t .aligned)))
+      (change (retentionSlices (t .workspace)) t₁) r₁
       → length (t₁ .workspace) ≡ length (s .workspace)
-      → (t₂ : PredictSlices) (r₂ : FitAnswer) → PredictCall Mobility mobilityInput (change (mobilitySlices (t₁ .workspace)) t₂) r₂
+      → (t₂ : PredictSlices) (r₂ : FitAnswer)
+      → PredictCall Mobility mobilityInput (change (mobilitySlices (t₁ .workspace)) t₂) r₂
       → Filled i (change s (record {
         workspace = t₂ .workspace;
-        maxRt = t .maxRt;
-        slope = t .slope;
-        intercept = t .intercept;
+        records = t .records;
         aligned = t .aligned;
-        retention = record { beta = t₁ .beta; predicted = t₁ .predicted; error = t₁ .error };
-        mobility = record { beta = t₂ .beta; predicted = t₂ .predicted; error = t₂ .error };
+        retention = t₁ .outputs;
+        mobility = t₂ .outputs;
       })) (Ran (outcomeOf r₁) (outcomeOf r₂))
   unfolding filled
   run-filled t answer c lw la t₁ r₁ c₁ l₁ t₂ r₂ c₂ =
       let n : ℕ = length (i .file) in
       let a : AlignPart i s t = align-part i s p t answer c in
+      let times : List Float = take n (t .aligned) in
       let o = targets-written t a in
       let x : ModelPart ofRetention i (retentionSlices (t .workspace)) t₁ r₁ =
-      model-part ofRetention i (retentionInput (take n (t .aligned))) (retentionSlices (t .workspace)) t₁ r₁
-      (retention-accepts (take n (t .aligned)) (t .workspace) (length-take-le n (t .aligned) (omega (arith, p .long .aligned))) lw)
-      (retention-fit (take n (t .aligned)) o)
-      (retention-predictions (take n (t .aligned)) o ∙ predictions-written ofRetention (i .table) (fittedBy i) (rows i))
-      (retention-errors (take n (t .aligned)) o)
+      model-part ofRetention i (retentionInput times) (retentionSlices (t .workspace)) t₁ r₁
+      (retention-accepts times (t .workspace) (length-take-le n (t .aligned) (omega (arith, p .long .aligned))) lw)
+      (retention-fit times o)
+      (retention-predictions times o ∙ predictions-written ofRetention (i .table) (fittedBy i) (rows i))
+      (retention-errors times o)
       c₁ in
       let y : ModelPart ofMobility i (mobilitySlices (t₁ .workspace)) t₂ r₂ =
-      model-part ofMobility i mobilityInput (mobilitySlices (t₁ .workspace)) t₂ r₂ (mobility-accepts (t₁ .workspace) l₁) mobility-fit (mobility-predicted ∙ predictions-written ofMobility (i .table) (fittedBy i) (rows i)) mobility-errors c₂ in
+      model-part ofMobility i mobilityInput (mobilitySlices (t₁ .workspace)) t₂ r₂
+      (mobility-accepts (t₁ .workspace) l₁)
+      mobility-fit
+      (mobility-predicted ∙ predictions-written ofMobility (i .table) (fittedBy i) (rows i))
+      mobility-errors
+      c₂ in
       let cells : ℕ = peptides i * i .files in
+      let first : ℕ = workspaceCells (orderOf Retention) in
+      let second : ℕ = workspaceCells (orderOf Mobility) in
       let workspace-is : t₂ .workspace ≡ filled i s .workspace =
       y .workspace
-      ∙ ap (overwritten (replicate 20200 zero64)) (x .workspace ∙ ap (overwritten (replicate 9660 zero64)) (a .workspace) ∙ zeroed-twice zero64 9660 cells (s .workspace))
-      ∙ zeroed-twice zero64 20200 (max 9660 cells) (s .workspace)
-      ∙ ap (λ (k : ℕ). overwritten (replicate k zero64) (s .workspace)) {x = max 20200 (max 9660 cells)} {y = max cells 20200} (omega arith) in
+      ∙ ap (overwritten (replicate second zero64))
+      (x .workspace
+      ∙ ap (overwritten (replicate first zero64)) (a .workspace)
+      ∙ zeroed-twice zero64 first cells (s .workspace))
+      ∙ zeroed-twice zero64 second (max first cells) (s .workspace)
+      ∙ ap (λ (k : ℕ). overwritten (replicate k zero64) (s .workspace))
+      {x = max second (max first cells)} {y = max cells second} (omega arith) in
       record {
-        answer = ap (λ (u : FitAnswer). Ran (outcomeOf u) (outcomeOf r₂)) (x .answer) ∙ ap (λ (u : FitAnswer). Ran (fittedBy i .retention .outcome) (outcomeOf u)) (y .answer);
+        answer =
+            ap (λ (u : FitAnswer). Ran (outcomeOf u) (outcomeOf r₂)) (x .answer)
+            ∙ ap (λ (u : FitAnswer). Ran (fittedBy i .retention .outcome) (outcomeOf u)) (y .answer);
         slices = λ k.
             record {
               workspace = workspace-is k;
-              maxRt = a .maxRt k;
-              slope = a .slope k;
-              intercept = a .intercept k;
+              records = a .records k;
               aligned = a .aligned k;
-              retention = record { beta = x .beta k; predicted = x .predicted k; error = x .error k };
-              mobility = record { beta = y .beta k; predicted = y .predicted k; error = y .error k };
+              retention = x .outputs k;
+              mobility = y .outputs k;
             };
       }
 
@@ -212,20 +293,15 @@ pub run-refused : (i : Input) (s : Slices) (n : ℕ) → n ≡ status i s → (n
 unfolding answerOf slicesAfter
 run-refused i s n e h =
     let test : eqb (status i s) accepted ≡ false = ne-eqb (status i s) 0 (λ z. h (e ∙ z)) in
-    let same : s ≡ slicesAfter i s = sym (ap (λ (b : Bool). cond b (filled i s) s) test) in
-    record {
-      answer = ap Refused e ∙ sym (ap (λ (b : Bool). cond b (Ran (fittedBy i .retention .outcome) (fittedBy i .mobility .outcome)) (Refused (status i s))) test);
-      told = ap toldRefused e ∙ sym (ap (λ (b : Bool). cond b (toldOf (fittedBy i .retention .outcome) (fittedBy i .mobility .outcome)) (toldRefused (status i s))) test);
-      slices = same;
-    }
+    rw e (record { answer = simp test; told = simp test; slices = simp test })
 
-pub run-accepted : (i : Input) (s t : Slices) (r : RunAnswer) → status i s ≡ 0 → Filled i (change s t) r → RunCall i (change s t) r
+pub run-accepted : (i : Input) (s t : Slices) (r : RunAnswer) → status i s ≡ accepted → Filled i (change s t) r
+    → RunCall i (change s t) r
 unfolding answerOf slicesAfter
 run-accepted i s t r e f =
     let test : eqb (status i s) accepted ≡ true = eq-eqb (status i s) 0 e in
-    let now : filled i s ≡ slicesAfter i s = sym (ap (λ (b : Bool). cond b (filled i s) s) test) in
     record {
-      answer = f .answer ∙ sym (ap (λ (b : Bool). cond b (Ran (fittedBy i .retention .outcome) (fittedBy i .mobility .outcome)) (Refused (status i s))) test);
-      told = ap toldBy (f .answer) ∙ sym (ap (λ (b : Bool). cond b (toldOf (fittedBy i .retention .outcome) (fittedBy i .mobility .outcome)) (toldRefused (status i s))) test);
-      slices = f .slices ∙ now;
+      answer = rw test (f .answer);
+      told = rw test (ap toldBy (f .answer));
+      slices = rw test (f .slices);
     }

@@ -93,7 +93,7 @@ module _ (part : Part) (table : Table) (f : Fitted) (rs : List Row) where
 
   -- what the model predicts, as its own call writes it
   abbrev written : List Float
-  written = map (predictionOf (modelOf part) table (fitOfPart part f .beta)) (map (rowQuery (modelOf part)) rs)
+  written = map (predictionOf (modelOf part) table (fitOfPart part f .coefficients)) (map (rowQuery (modelOf part)) rs)
 
   abbrev pub predictionsFor : List Float
   predictionsFor = cond solved written []
@@ -104,7 +104,7 @@ module _ (part : Part) (table : Table) (f : Fitted) (rs : List Row) where
   solved-predictions : solved ≡ true → predictionsFor ≡ map (λ (r : Row). result r .prediction) rs
   solved-predictions h =
       ap (λ (b : Bool). cond b written []) h
-      ∙ map-twice (predictionOf (modelOf part) table (fitOfPart part f .beta)) (rowQuery (modelOf part)) rs
+      ∙ map-twice (predictionOf (modelOf part) table (fitOfPart part f .coefficients)) (rowQuery (modelOf part)) rs
 
   no-predictions : solved ≡ false → predictionsFor ≡ []
   no-predictions h = ap (λ (b : Bool). cond b written []) h

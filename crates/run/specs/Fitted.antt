@@ -107,7 +107,7 @@ predictedBy model table beta q y =
 -- a row's, by a model of the run
 abbrev pub resultBy : Part → Table → Fitted → Row → Predicted
 resultBy part table f r =
-    predictedBy (modelOf part) table (fitOfPart part f .beta) (rowQuery (modelOf part) r)
+    predictedBy (modelOf part) table (fitOfPart part f .coefficients) (rowQuery (modelOf part) r)
     (target (modelOf part) (f .records) r)
 
 -- and only where that fits

@@ -2,25 +2,26 @@
 ghost use mathlib.Core.Path.{_≡_};
 ghost use mathlib.Core.Bool.{_&&_};
 ghost use mathlib.Core.List.{[], _∷_};
-ghost use Prim.Native.Nat.{_*_};
 ghost use lib.Dec.{leb};
 ghost use Rattle.status.specs.Checks.{lengthsAgree};
-ghost use Rattle.model_fit.specs.Input.{tableOf};
-ghost use Rattle.run.specs.Call.{neededCells, longEnough, statusBy};
+ghost use Rattle.run.specs.Call.{inputOf, neededCells, modelLong, longEnough, statusBy};
+use embedding::Model;
+use rt_matrix::FileRoom;
+
+// The lengths of a model's outputs.
+pub struct ModelRoom {
+    pub beta: usize,
+    pub predicted: usize,
+    pub error: usize,
+}
 
 // The lengths of the slices that a run writes.
 pub struct Room {
     pub workspace: usize,
-    pub max_rt: usize,
-    pub slope: usize,
-    pub intercept: usize,
+    pub records: FileRoom,
     pub aligned: usize,
-    pub retention_beta: usize,
-    pub retention_predicted: usize,
-    pub retention_error: usize,
-    pub mobility_beta: usize,
-    pub mobility_predicted: usize,
-    pub mobility_error: usize,
+    pub retention: ModelRoom,
+    pub mobility: ModelRoom,
 }
 
 // Whether the columns belong together, and the logs to the masses.
@@ -35,24 +36,31 @@ fn columns_agree(
     peptides: usize,
     logs: usize,
 ) -> bool
-    ensures { λ r. ⌜ r ≡ (lengthsAgree rows (peptide ∷ label ∷ q ∷ rt ∷ charge ∷ mobility ∷ []) && lengthsAgree peptides (logs ∷ [])) ⌝ }
+    ensures { λ r. ⌜ r ≡ (lengthsAgree rows (peptide ∷ label ∷ q ∷ rt ∷ charge ∷ mobility ∷ [])
+        && lengthsAgree peptides (logs ∷ [])) ⌝ }
 {
     let first = status::same_lengths(rows, peptide, label, q, rt);
     let others = (charge == rows) & (mobility == rows);
     first & others & (logs == peptides)
 }
 
-// Whether a workspace has the cells of the alignment and those of either fit.
+// Whether a workspace has the cells of the alignment and those of either fit: mobility's are more.
 fn workspace_fits(files: usize, peptides: usize, workspace: usize) -> bool
     ensures { λ r. ⌜ r ≡ leb (neededCells files peptides) workspace ⌝ }
 {
-    if workspace < 20200 {
+    let d = embedding::order(Model::Mobility);
+    if workspace < regression::workspace_cells(d) {
         return false;
     }
-    if files == 0 {
-        return true;
-    }
-    peptides <= workspace / files
+    status::cells_fit(peptides, files, workspace)
+}
+
+// Whether a model's outputs of these lengths are long enough.
+fn model_long(model: Model, rows: usize, room: ModelRoom) -> bool
+    ensures { λ r. ⌜ r ≡ modelLong model rows room ⌝ }
+{
+    let d = embedding::order(model);
+    (d <= room.beta) & ((rows <= room.predicted) & (rows <= room.error))
 }
 
 // Whether the slices of these lengths are long enough.
@@ -60,16 +68,17 @@ fn long_enough(files: usize, peptides: usize, rows: usize, room: Room) -> bool
     ensures { λ r. ⌜ r ≡ longEnough files peptides rows room ⌝ }
 {
     let workspace = workspace_fits(files, peptides, room.workspace);
-    let by_file = (files <= room.max_rt) & (files <= room.slope) & (files <= room.intercept);
-    let retention = (rows <= room.aligned)
-        & (rows <= room.retention_predicted)
-        & (rows <= room.retention_error);
-    let by_row = retention & (rows <= room.mobility_predicted) & (rows <= room.mobility_error);
-    let betas = (69 <= room.retention_beta) & (100 <= room.mobility_beta);
-    workspace & by_file & by_row & betas
+    let records = room.records;
+    let by_file = rt_matrix::columns_long(files, records);
+    let retention = room.retention;
+    let retention_long = model_long(Model::Retention, rows, retention);
+    let mobility = room.mobility;
+    let mobility_long = model_long(Model::Mobility, rows, mobility);
+    workspace & by_file & (rows <= room.aligned) & retention_long & mobility_long
 }
 
-// The status of a call: 1, 2, 3, 7, 6, 4, 5 or 0. Each check goes over the whole input, and the first that fails is answered.
+// The status of a call: 1, 2, 3, 7, 6, 4, 5 or 0. Each check goes over the whole input, and the first that fails is
+// answered.
 pub(crate) fn check(
     file: &[u32],
     peptide: &[u32],
@@ -85,7 +94,9 @@ pub(crate) fn check(
     logs: &[f64],
     room: Room,
 ) -> u8
-    ensures { λ r. ⌜ r ≡ statusBy (record { file = now (file .entry); peptide = now (peptide .entry); label = now (label .entry); q = now (q .entry); rt = now (rt .entry); charge = now (charge .entry); mobility = now (mobility .entry); files = files; table = tableOf (now (letters .entry)) (now (offsets .entry)) (now (masses .entry)) (now (logs .entry)) }) room ⌝ }
+    ensures { λ r. ⌜ r ≡ statusBy
+        (inputOf file peptide label q rt charge mobility files letters offsets masses logs)
+        room ⌝ }
 {
     let rows = file.len();
     let peptides = masses.len();

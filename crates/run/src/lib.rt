@@ -1,8 +1,11 @@
-// A whole run over a batch: the alignment of retention times, the retention fit on the aligned times, the mobility fit, and the predictions and
-// errors of each model that fits.
+// A whole run over a batch: the alignment of retention times, the retention fit on the aligned times, the mobility
+// fit, and the predictions and errors of each model that fits.
 ghost use mathlib.Core.Path.{_≡_};
 ghost use Rattle.status.specs.Status.{accepted};
-ghost use Rattle.run.specs.Call.{inputAt, inputOf, modelAt, slicesAt, modelOf, slicesOf, status, outcomeOf, Filled, RunCall};
+ghost use Rattle.rt_matrix.specs.Columns.{fileColumnsAt, fileColumnsOf};
+ghost use Rattle.models.specs.Call.{outputsAt, outputsOf};
+ghost use Rattle.run.specs.Call.{inputAt, inputOf, slicesAt, slicesOf, status, outcomeOf, Filled, RunCall};
+use crate::checks::ModelRoom;
 use crate::checks::Room;
 use crate::checks::check;
 use models::FitAnswer;
@@ -10,6 +13,7 @@ use models::mobility_model;
 use models::retention_model;
 use regression::FitOutcome;
 use retention_alignment::global_alignment;
+use rt_matrix::FileRoom;
 
 mod checks; // the checks, in document 01's order
 
@@ -60,15 +64,15 @@ fn run_accepted(
 ) -> RunAnswer
     requires { ⌜ status
         (inputAt file peptide label q rt charge mobility files letters offsets masses logs)
-        (slicesAt workspace «max_rt» slope intercept aligned
-        (modelAt «retention_beta» «retention_predicted» «retention_error»)
-        (modelAt «mobility_beta» «mobility_predicted» «mobility_error»))
+        (slicesAt workspace (fileColumnsAt «max_rt» slope intercept) aligned
+        (outputsAt «retention_beta» «retention_predicted» «retention_error»)
+        (outputsAt «mobility_beta» «mobility_predicted» «mobility_error»))
         ≡ accepted ⌝ }
     ensures { λ r. ⌜ Filled
         (inputOf file peptide label q rt charge mobility files letters offsets masses logs)
-        (slicesOf workspace «max_rt» slope intercept aligned
-        (modelOf «retention_beta» «retention_predicted» «retention_error»)
-        (modelOf «mobility_beta» «mobility_predicted» «mobility_error»))
+        (slicesOf workspace (fileColumnsOf «max_rt» slope intercept) aligned
+        (outputsOf «retention_beta» «retention_predicted» «retention_error»)
+        (outputsOf «mobility_beta» «mobility_predicted» «mobility_error»))
         r ⌝ }
 {
     let rows = file.len();
@@ -121,9 +125,10 @@ fn run_accepted(
     }
 }
 
-// Runs a batch. Of the workspace it needs the larger of peptides × files and 20,200 cells, of max_rt, slope and intercept one for each file, of
-// aligned, of the predictions and of the errors one for each row, and 69 and 100 coefficients. What is longer keeps its rest, a refused call
-// leaves every slice as it was, and the outputs of a model that does not fit keep what they held.
+// Runs a batch. Of the workspace it needs the larger of peptides × files and 20,200 cells, of max_rt, slope and
+// intercept one for each file, of aligned, of the predictions and of the errors one for each row, and 69 and 100
+// coefficients. What is longer keeps its rest, a refused call leaves every slice as it was, and the outputs of a
+// model that does not fit keep what they held.
 pub fn run(
     file: &[u32],
     peptide: &[u32],
@@ -151,23 +156,32 @@ pub fn run(
 ) -> RunAnswer
     ensures { λ r. ⌜ RunCall
         (inputOf file peptide label q rt charge mobility files letters offsets masses logs)
-        (slicesOf workspace «max_rt» slope intercept aligned
-        (modelOf «retention_beta» «retention_predicted» «retention_error»)
-        (modelOf «mobility_beta» «mobility_predicted» «mobility_error»))
+        (slicesOf workspace (fileColumnsOf «max_rt» slope intercept) aligned
+        (outputsOf «retention_beta» «retention_predicted» «retention_error»)
+        (outputsOf «mobility_beta» «mobility_predicted» «mobility_error»))
         r ⌝ }
 {
-    let room = Room {
-        workspace: workspace.len(),
+    let records = FileRoom {
         max_rt: max_rt.len(),
         slope: slope.len(),
         intercept: intercept.len(),
+    };
+    let retention = ModelRoom {
+        beta: retention_beta.len(),
+        predicted: retention_predicted.len(),
+        error: retention_error.len(),
+    };
+    let mobility_room = ModelRoom {
+        beta: mobility_beta.len(),
+        predicted: mobility_predicted.len(),
+        error: mobility_error.len(),
+    };
+    let room = Room {
+        workspace: workspace.len(),
+        records,
         aligned: aligned.len(),
-        retention_beta: retention_beta.len(),
-        retention_predicted: retention_predicted.len(),
-        retention_error: retention_error.len(),
-        mobility_beta: mobility_beta.len(),
-        mobility_predicted: mobility_predicted.len(),
-        mobility_error: mobility_error.len(),
+        retention,
+        mobility: mobility_room,
     };
     let status = check(
         file,

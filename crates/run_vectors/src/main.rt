@@ -1,6 +1,7 @@
-// Replays stored runs of the Rust. Standard input is the number of batches and then, for each, the numbers of files, peptides, letters and rows,
-// the peptide table (offsets, letters, masses, logs) and the columns file, peptide, label, q, rt, charge and mobility. Standard output is, for
-// each, the status, the columns max_rt, slope, intercept and aligned, what each fit answers, and the predictions and errors of each that solves.
+// Replays stored runs of the Rust. Standard input is the number of batches and then, for each, the numbers of files,
+// peptides, letters and rows, the peptide table (offsets, letters, masses, logs) and the columns file, peptide,
+// label, q, rt, charge and mobility. Standard output is, for each, the status, the columns max_rt, slope, intercept
+// and aligned, what each fit answers, and the predictions and errors of each that solves.
 use regression::FitOutcome;
 use run::RunAnswer;
 use vectors::Token;
@@ -47,7 +48,8 @@ fn write_model(solved: bool, predicted: &[f32], error: &[f32], rows: usize) {
     }
 }
 
-// Runs a batch, and writes what the call leaves in the slices. They hold `held` before it, which the answers don't depend on.
+// Runs a batch, and writes what the call leaves in the slices. They hold `held` before it, which the answers don't
+// depend on.
 fn answer(
     file: &[u32],
     peptide: &[u32],

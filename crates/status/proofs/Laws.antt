@@ -10,7 +10,17 @@ use lib.ListN.{length, getD, take, drop}
 use lib.Seq.{drop-cons}
 use borrow.Author.Tests.{ltb-true, leb-true, eqb-true}
 use Rattle.status.specs.Checks.{every, allBelow, lengthsAgree}
-use Rattle.status.specs.Limits.{withinLimits, withinRowLimits, withinSystemLimits, maxFiles, maxRows, maxPeptides, maxCells, maxOrder, maxColumns}
+use Rattle.status.specs.Limits.{
+  withinLimits,
+  withinRowLimits,
+  withinSystemLimits,
+  maxFiles,
+  maxRows,
+  maxPeptides,
+  maxCells,
+  maxOrder,
+  maxColumns,
+}
 
 -- both of two tests that pass together
 pub and-true : (a b : Bool) → (a && b) ≡ true → (a ≡ true) × (b ≡ true)

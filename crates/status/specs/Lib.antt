@@ -1,4 +1,5 @@
--- The statuses and the limits of document 01, the checks that several entry points share, and what an answer tells. Definitions only.
+-- The statuses and the limits of document 01, the checks that several entry points share, and what an answer tells.
+-- Definitions only.
 pub mod Status
 pub mod Limits
 pub mod Checks

@@ -1,4 +1,5 @@
-// The statuses and the limits of document 01, and the checks that several entry points make: no other crate has numbers of its own for them.
+// The statuses and the limits of document 01, and the checks that several entry points make: no other crate has
+// numbers of its own for them.
 ghost use mathlib.Core.Path.{_≡_};
 ghost use mathlib.Core.List.{[], _∷_};
 ghost use Prim.Native.Nat.{_*_};

@@ -12,7 +12,17 @@ use lib.Seq.{take-append-seam, take-at, drop-drop, drop-append-le}
 use borrow.Author.Tests.{eq-eqb, ne-eqb}
 use Rattle.text.specs.declared.line.LineEnd.the-variants as E
 use Rattle.text.specs.declared.line.ValueAt.the-variants as VA
-use Rattle.text.specs.Line.{longerBy, lineOf, startsWith, keyed, inLine, lineRead, firstLine, hexNumber, readHexDigits}
+use Rattle.text.specs.Line.{
+  longerBy,
+  lineOf,
+  startsWith,
+  keyed,
+  inLine,
+  lineRead,
+  firstLine,
+  hexNumber,
+  readHexDigits,
+}
 use Rattle.text.specs.Reader.{value, malformed}
 use lib.IntN.{ℤ}
 use Rattle.float.specs.Hex.{readHex}

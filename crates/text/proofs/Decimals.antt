@@ -8,7 +8,19 @@ use native.Mathlib.Omega.{arith}
 use native.Mathlib.Numerals.{add-one}
 use lib.Dec.{leb, ltb, eqb}
 use lib.ListN.{length, getD}
-use borrow.Author.Tests.{ltb-true, ltb-false, leb-true, leb-false, lt-ltb, le-ltb, le-leb, lt-leb, eqb-false, eq-eqb, ne-eqb}
+use borrow.Author.Tests.{
+  ltb-true,
+  ltb-false,
+  leb-true,
+  leb-false,
+  lt-ltb,
+  le-ltb,
+  le-leb,
+  lt-leb,
+  eqb-false,
+  eq-eqb,
+  ne-eqb,
+}
 use Rattle.text.specs.Decimal.{decimalOnto, decimalOf, decimalZ, isDigit, readFrom, readDecimal}
 use Rattle.float.proofs.Order.{and-true}
 use Rattle.text.proofs.Cases.{by-bool, by-lt, by-eq, some-none, and-false}

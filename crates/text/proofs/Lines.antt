@@ -150,7 +150,8 @@ bind-sound {A} r f b k s = go (r s) refl
 bind-complete : {A B : Type 0} (r : Reader A) (f : A → Reader B) (a : A) (b : B) (n m : ℕ) (s : List ℕ) → r s ≡ value a n → f a (drop n s) ≡ value b m → (r >>= f) s ≡ value b (n + m)
 bind-complete r f a b n m s h g = simp (h, g)
 
--- f makes of each part of a value that is Ok a reader of the rest of that value's text, where what comes after it may follow
+-- f makes of each part of a value that is Ok a reader of the rest of that value's text, where what comes after it may
+-- follow
 pub record Continues {C B : Type 0} (f : C → Reader B) (part : B → C) (text : B → List ℕ) (Ok : B → Type 0) (After : List ℕ → Type 0) : Type 0 where
   pub complete : (b : B) (s : List ℕ) → Ok b → After s → f (part b) (text b ++ s) ≡ value b (length (text b))
   pub sound : (c : C) (b : B) (n : ℕ) (s : List ℕ) → f c s ≡ value b n → (part b ≡ c) × Ok b × After (drop n s) × (n ≡ length (text b)) × (s ≡ text b ++ drop n s)

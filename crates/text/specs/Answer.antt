@@ -40,7 +40,8 @@ lineEnd at (some l) = E.the-variants.At (at + length l)
 -- where the value stands in a line that begins at at
 abbrev pub valueAt : ℕ → List ℕ → Option (List ℕ) → ValueAt
 valueAt at key none = VA.the-variants.Malformed
-valueAt at key (some l) = cond (startsWith key l) (VA.the-variants.Found (at + length key) (at + length l)) VA.the-variants.Malformed
+valueAt at key (some l) =
+    cond (startsWith key l) (VA.the-variants.Found (at + length key) (at + length l)) VA.the-variants.Malformed
 
 -- what was read from at on, and the place after it
 abbrev pub decimalLineAt : ℕ → Read ℕ → DecimalLine

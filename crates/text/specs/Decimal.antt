@@ -38,7 +38,8 @@ readFrom max v (c ∷ s) = cond (isDigit c) (readFrom max (v * 10 + (c - 48)) s)
 -- the number that s is, if it is at most max: one digit or more, the first of several not `0`
 unfoldable pub readDecimal : ℕ → List ℕ → Option ℕ
 unfolding readFrom
-readDecimal max s = cond (eqb (length s) 0) none (cond (ltb 1 (length s) && eqb (getD s 0 0) 48) none (readFrom max 0 s))
+readDecimal max s =
+    cond (eqb (length s) 0) none (cond (ltb 1 (length s) && eqb (getD s 0 0) 48) none (readFrom max 0 s))
 
 -- -n, where n is not 0: `-0` is no number
 unfoldable pub negative : Option ℕ → Option ℤ
@@ -53,4 +54,7 @@ nonNegative (some n) = some (pos n)
 -- the `i32` that s is
 unfoldable pub readSigned : List ℕ → Option ℤ
 unfolding readDecimal negative nonNegative
-readSigned s = cond (eqb (getD s 0 0) 45) (negative (readDecimal (2 ^ 31) (drop 1 s))) (nonNegative (readDecimal (2 ^ 31 - 1) s))
+readSigned s =
+    cond (eqb (getD s 0 0) 45)
+    (negative (readDecimal (2 ^ 31) (drop 1 s)))
+    (nonNegative (readDecimal (2 ^ 31 - 1) s))

@@ -1,4 +1,5 @@
-// The answers of the entry points as hosts see them: an enum becomes its status and the values of its case, and 0 for what the case has not.
+// The answers of the entry points as hosts see them: an enum becomes its status and the values of its case, and 0 for
+// what the case has not.
 ghost use mathlib.Core.Path.{_≡_};
 ghost use Rattle.zorkamai.specs.Answers.{ofSolve, ofAlign, ofOutcome, ofFit, ofRun, ofFound, ofTime, ofStep};
 use crate::Answer;

@@ -1,15 +1,26 @@
-// The library for hosts: the entry points under C names, but for the align program's `align_text`. A slice is passed as a pointer and a length;
-// an answer is a status of document 01's table, alone or in a struct beside what the call gives. Each function takes whatever is handed in, and
-// does what its entry point does.
+// The library for hosts: the entry points under C names, but for the align program's `align_text`. A slice is passed
+// as a pointer and a length; an answer is a status of document 01's table, alone or in a struct beside what the call
+// gives. Each function takes whatever is handed in, and does what its entry point does.
 ghost use mathlib.Core.Path.{_≡_};
 ghost use Rattle.embedding.specs.declared.Model.{Model};
 ghost use Rattle.gauss.specs.Solve.{systemOf, slicesOf as solveSlices};
 ghost use Rattle.matrix.specs.Cells.{stepOf};
-ghost use Rattle.models.specs.Call.{retentionInput, mobilityInput, fitSlices, predictSlices};
+ghost use Rattle.models.specs.Call.{retentionInput, mobilityInput, outputsOf, predictSlices};
+ghost use Rattle.regression.specs.Workspace.{fitSlices};
 ghost use Rattle.records.specs.Record.{recordOf, timeBy};
 ghost use Rattle.retention_alignment.specs.Call.{inputOf as alignInput, slicesOf as alignSlices};
-ghost use Rattle.run.specs.Call.{inputOf as runInput, modelOf as runModel, slicesOf as runSlices};
-ghost use Rattle.zorkamai.specs.Answers.{ofFound, ofTime, ofStep, SolveExported, AlignExported, FitExported, PredictExported, RunExported};
+ghost use Rattle.rt_matrix.specs.Columns.{fileColumnsOf};
+ghost use Rattle.run.specs.Call.{inputOf as runInput, slicesOf as runSlices};
+ghost use Rattle.zorkamai.specs.Answers.{
+  ofFound,
+  ofTime,
+  ofStep,
+  SolveExported,
+  AlignExported,
+  FitExported,
+  PredictExported,
+  RunExported,
+};
 
 mod answers;
 
@@ -17,8 +28,8 @@ use models::mobility_model;
 use models::retention_model;
 use records::Alignment;
 
-// The answer of the solver or of a fit: its status and, if that is 0, the ridge, the fit's r2 and the number of training rows. What a call
-// does not give is 0.
+// The answer of the solver or of a fit: its status and, if that is 0, the ridge, the fit's r2 and the number of
+// training rows. What a call does not give is 0.
 #[repr(C)]
 pub struct Answer {
     pub status: u8,
@@ -92,7 +103,7 @@ pub extern "C" fn zorkamai_align(
 ) -> u8
     ensures { λ r. ⌜ AlignExported
         (alignInput file peptide label q rt files peptides)
-        (alignSlices workspace «max_rt» slope intercept aligned)
+        (alignSlices workspace (fileColumnsOf «max_rt» slope intercept) aligned)
         r ⌝ }
 {
     answers::of_align(retention_alignment::global_alignment(
@@ -162,7 +173,7 @@ pub extern "C" fn zorkamai_retention_predict(
 ) -> Answer
     ensures { λ r. ⌜ PredictExported Model.Retention
         (retentionInput peptide label q aligned letters offsets masses logs)
-        (predictSlices workspace beta predicted error)
+        (predictSlices workspace (outputsOf beta predicted error))
         r ⌝ }
 {
     answers::of_fit(retention_model::predict(
@@ -232,7 +243,7 @@ pub extern "C" fn zorkamai_mobility_predict(
 ) -> Answer
     ensures { λ r. ⌜ PredictExported Model.Mobility
         (mobilityInput peptide label q charge mobility letters offsets masses)
-        (predictSlices workspace beta predicted error)
+        (predictSlices workspace (outputsOf beta predicted error))
         r ⌝ }
 {
     answers::of_fit(mobility_model::predict(
@@ -280,9 +291,9 @@ pub extern "C" fn zorkamai_run(
 ) -> RunReport
     ensures { λ r. ⌜ RunExported
         (runInput file peptide label q rt charge mobility files letters offsets masses logs)
-        (runSlices workspace «max_rt» slope intercept aligned
-        (runModel «retention_beta» «retention_predicted» «retention_error»)
-        (runModel «mobility_beta» «mobility_predicted» «mobility_error»))
+        (runSlices workspace (fileColumnsOf «max_rt» slope intercept) aligned
+        (outputsOf «retention_beta» «retention_predicted» «retention_error»)
+        (outputsOf «mobility_beta» «mobility_predicted» «mobility_error»))
         r ⌝ }
 {
     answers::of_run(run::run(

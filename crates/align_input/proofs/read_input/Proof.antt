@@ -1,4 +1,5 @@
--- `align_input::read_input` meets its contract: by the length, the two lines before the rows, and the rows, as the definition goes.
+-- `align_input::read_input` meets its contract: by the length, the two lines before the rows, and the rows, as the
+-- definition goes.
 use mathlib.Core.Path.{_≡_, refl, sym, ap, _∙_}
 use mathlib.Core.List.{List}
 use mathlib.Core.Option.{some}

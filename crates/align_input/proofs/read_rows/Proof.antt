@@ -1,4 +1,5 @@
--- `align_input::read_rows` meets its contract. The loop's invariant: counting and storing the rows that are left gives what counting and storing all of them gives.
+-- `align_input::read_rows` meets its contract. The loop's invariant: counting and storing the rows that are left
+-- gives what counting and storing all of them gives.
 use mathlib.Core.Path.{_≡_, refl, sym, ap, _∙_}
 use mathlib.Core.List.{List}
 use mathlib.Core.Option.{none, some}

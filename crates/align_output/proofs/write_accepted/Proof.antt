@@ -2,6 +2,9 @@
 use mathlib.Core.List.{[], flatten}
 use native.Mathlib.Omega.{arith}
 use denote.Ref.{now}
+use lib.ListN.{length}
+use Rattle.rt_matrix.specs.Columns.{fileColumnsAt, recordsOf}
+use Rattle.rt_matrix.proofs.RecordColumns.{length-records}
 use Rattle.text.proofs.Writing.{wrote-nothing, wrote-then}
 use Rattle.align_output.specs.Output.{acceptedText}
 use Rattle.align_output.proofs.Lengths.{status-length, files-length}
@@ -16,14 +19,20 @@ write-files-requires : tie.Need-write-files-requires
 write-files-requires c κs =
     let w = c .before .before .before in
     let a = w .before .before .before .before .before .before in
-    (omega (arith, w .write-status .ensures .next, w .write-status .kept .0, status-length 0 (omega arith), a .before .pre .0), a .before .pre .1, a .before .pre .2, a .before .pre .3)
+    let p = a .before .pre in (
+      omega (arith, w .write-status .ensures .next, w .write-status .kept .0, status-length 0 (omega arith), p .0),
+      p .1,
+      p .2,
+    )
 
 write-aligned-requires : tie.Need-write-aligned-requires
 write-aligned-requires c κs =
     let v = c .before .before .before in
     let w = v .before .before .before .before in
     let s = w .before .before .before .before .before .before .before in
-    let m = now (s .args .max-rt) in
+    let a = s .args in
+    let columns = fileColumnsAt (a .max-rt) (a .slope) (a .intercept) in
+    let long = length-records columns (length (now (a .max-rt))) (s .pre .2) in
     omega (
       arith,
       w .write-status .ensures .next,
@@ -31,7 +40,8 @@ write-aligned-requires c κs =
       status-length 0 (omega arith),
       v .write-files .ensures .next,
       v .write-files .kept .0,
-      files-length 0 m (now (s .args .slope)) (now (s .args .intercept)) (omega (arith, s .pre .1)),
+      files-length 0 (recordsOf columns) (omega (arith, long, s .pre .1)),
+      long,
       s .pre .0,
     )
 

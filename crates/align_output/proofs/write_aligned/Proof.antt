@@ -1,5 +1,5 @@
--- `align_output::write_aligned` meets its contract. The loop's invariant: writing the times that are left gives what writing all of them gives, and a time takes 17
--- bytes.
+-- `align_output::write_aligned` meets its contract. The loop's invariant: writing the times that are left gives what
+-- writing all of them gives, and a time takes 17 bytes.
 use mathlib.Core.Path.{subst}
 use mathlib.Core.List.{List}
 use Prim.Native.Nat.{ℕ, _+_, _-_, _*_, _≤_}

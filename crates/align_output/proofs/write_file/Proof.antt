@@ -38,7 +38,7 @@ write-float-requires-2 c κs =
       decimal-line-length fileKey (a .i) (omega arith),
       v .write-float .ensures .next,
       v .write-float .kept .0,
-      float-length maxKey (a .max-rt),
+      float-length maxKey (a .a .«max_rt»),
     )
 
 slice-aggregate-write-float-3 : tie.Need-slice-aggregate-write-float-3
@@ -57,10 +57,10 @@ write-float-requires-3 c κs =
       decimal-line-length fileKey (a .i) (omega arith),
       v .write-float .ensures .next,
       v .write-float .kept .0,
-      float-length maxKey (a .max-rt),
+      float-length maxKey (a .a .«max_rt»),
       u .write-float2 .ensures .next,
       u .write-float2 .kept .0,
-      float-length slopeKey (a .slope),
+      float-length slopeKey (a .a .slope),
     )
 
 same-length : tie.Need-same-length

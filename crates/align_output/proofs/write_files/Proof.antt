@@ -1,56 +1,79 @@
--- `align_output::write_files` meets its contract. The loop's invariant: writing the files that are left gives what writing all of them gives, and a file takes at
--- most 64 bytes.
-use mathlib.Core.Path.{subst}
-use mathlib.Core.List.{List}
+-- `align_output::write_files` meets its contract. The loop's invariant: writing the files that are left gives what
+-- writing all of them gives, and a file takes at most 64 bytes.
+use mathlib.Core.Path.{_≡_, ap, _∙_, subst}
+use mathlib.Core.List.{List, _++_}
 use Prim.Native.Nat.{ℕ, _+_, _-_, _*_, _≤_}
 use native.Mathlib.Omega.{arith}
-use lib.ListN.{length, drop, getD}
-use lib.Ieee.{nan}
+use lib.ListN.{length, drop}
 use denote.Ref.{now}
+use borrow.Author.Needs.{needs}
+use Rattle.rt_matrix.specs.Columns.{FileColumns, fileColumnsAt, recordsOf}
+use Rattle.rt_matrix.specs.declared.Alignment.{Alignment}
+use Rattle.rt_matrix.proofs.RecordColumns.{noRecord, recordAt, length-records, records-at}
 use Rattle.align_output.specs.Output.{fileText, filesText}
 use Rattle.align_output.proofs.Pieces.{Writing, writing-start, writing-done, writing-more}
 use Rattle.align_output.proofs.Lengths.{file-length, files-next, files-end}
-use borrow.Author.Needs.{needs}
 use Rattle.align_output.proofs.write_files.Statement.{statement}
 use Rattle.align_output.proofs.write_files.Tie as tie
 
 abbrev Inv-loop : tie.InvT-loop
 Inv-loop out₀ at max-rt slope intercept next₀ i₀ out next i =
+    let records = recordsOf (record { maxRt = max-rt; slope = slope; intercept = intercept }) in
     (i ≤ length max-rt)
     × (next ≤ at + 64 * i)
-    × Writing out₀ at (filesText 0 max-rt slope intercept) out next (filesText i (drop i max-rt) (drop i slope) (drop i intercept))
+    × Writing out₀ at (filesText 0 records) out next (filesText i (drop i records))
 
 abbrev μ-loop : tie.MeasureT-loop
 μ-loop out₀ at max-rt slope intercept next₀ i₀ out next i = length max-rt - i
 
+-- places in the code, each as a later one sees it
+abbrev start : tie.At-loop Inv-loop μ-loop → tie.Start Inv-loop μ-loop
+start l = l .before .before .before .before .before
+
+abbrev turn : tie.After-write-file-arg Inv-loop μ-loop → tie.In-loop Inv-loop μ-loop
+turn c = c .before .before .before .before
+
+-- the records
+abbrev columns : tie.Start Inv-loop μ-loop → FileColumns
+columns s = let a = s .args in fileColumnsAt (a .max-rt) (a .slope) (a .intercept)
+
+records-long : (s : tie.Start Inv-loop μ-loop) → length (recordsOf (columns s)) ≡ length (now (s .args .max-rt))
+records-long s = length-records (columns s) (length (now (s .args .max-rt))) (s .pre .2)
+
+-- what is still to be written, by another way to say it
+abbrev Still : tie.At-loop Inv-loop μ-loop → List ℕ → Type 0
+Still l rest =
+    let s = start l in
+    Writing (now (s .args .out)) (s .args .at) (filesText 0 (recordsOf (columns s))) (l .loop .out) (l .loop .next) rest
+
 loop-holds : tie.Need-loop-holds Inv-loop μ-loop
 loop-holds c = (search needs, search needs, writing-start _ _ _)
+
+mul-t9 : tie.Need-mul-t9 Inv-loop μ-loop
+mul-t9 c = search needs
+
+shared-slice-read-t12 : tie.Need-shared-slice-read-t12 Inv-loop μ-loop
+shared-slice-read-t12 c = search needs
+
+mul-t13 : tie.Need-mul-t13 Inv-loop μ-loop
+mul-t13 c = search needs
+
+shared-slice-read-t15 : tie.Need-shared-slice-read-t15 Inv-loop μ-loop
+shared-slice-read-t15 c = search needs
+
+mul-t16 : tie.Need-mul-t16 Inv-loop μ-loop
+mul-t16 c = search needs
+
+shared-slice-read-t18 : tie.Need-shared-slice-read-t18 Inv-loop μ-loop
+shared-slice-read-t18 c = search needs
 
 cast-write-file : tie.Need-cast-write-file Inv-loop μ-loop
 cast-write-file c = search needs
 
-mul-write-file : tie.Need-mul-write-file Inv-loop μ-loop
-mul-write-file c = search needs
-
-shared-slice-read-write-file : tie.Need-shared-slice-read-write-file Inv-loop μ-loop
-shared-slice-read-write-file c = search needs
-
-mul-write-file-2 : tie.Need-mul-write-file-2 Inv-loop μ-loop
-mul-write-file-2 c = search needs
-
-shared-slice-read-write-file-2 : tie.Need-shared-slice-read-write-file-2 Inv-loop μ-loop
-shared-slice-read-write-file-2 c = search needs
-
-mul-write-file-3 : tie.Need-mul-write-file-3 Inv-loop μ-loop
-mul-write-file-3 c = search needs
-
-shared-slice-read-write-file-3 : tie.Need-shared-slice-read-write-file-3 Inv-loop μ-loop
-shared-slice-read-write-file-3 c = search needs
-
 write-file-requires : tie.Need-write-file-requires Inv-loop μ-loop
 write-file-requires c κs =
-    let l = c .before .before .before .before .before in
-    omega (arith, l .loop .inv, l .loop .inv .2 .long, l .before .before .before .before .before .pre)
+    let l = turn c .before in
+    omega (arith, l .loop .inv, l .loop .inv .2 .long, start l .pre .0)
 
 add-i : tie.Need-add-i Inv-loop μ-loop
 add-i c = search needs
@@ -61,18 +84,19 @@ loop-less c = search needs
 loop-again : tie.Need-loop-again Inv-loop μ-loop
 loop-again c =
     let w = c .before .before in
-    let t = w .before .before .before .before .before in
+    let t = turn (w .before) in
     let l = t .before in
-    let s = l .before .before .before .before .before in
+    let s = start l in
     let i = l .loop .i in
-    let m = now (s .args .max-rt) in
-    let p = now (s .args .slope) in
-    let n = now (s .args .intercept) in (
+    let records = recordsOf (columns s) in
+    let a = recordAt (columns s) i in
+    let at-file = records-at (columns s) (length (now (s .args .max-rt))) (s .pre .2) i noRecord (t .loop-test .taken) in
+    let next : filesText i (drop i records) ≡ fileText i a ++ filesText (i + 1) (drop (i + 1) records) =
+    files-next records noRecord i (omega (arith, records-long s))
+    ∙ ap (λ (r : Alignment). fileText i r ++ filesText (i + 1) (drop (i + 1) records)) at-file in (
       omega arith,
-      omega (arith, l .loop .inv .1, w .write-file .ensures .next, file-length i (getD m i nan) (getD p i nan) (getD n i nan) (omega (arith, s .pre))),
-      writing-more _ _ _ _ _ (fileText i (getD m i nan) (getD p i nan) (getD n i nan)) _ _ _
-          (subst (λ (x : List ℕ). Writing (now (s .args .out)) (s .args .at) (filesText 0 m p n) (l .loop .out) (l .loop .next) x) (files-next m p n i (t .loop-test .taken) (s .pre .2) (s .pre .3)) (l .loop .inv .2))
-          (w .write-file .ensures),
+      omega (arith, l .loop .inv .1, w .write-file .ensures .next, file-length i a (omega (arith, s .pre .1))),
+      writing-more _ _ _ _ _ (fileText i a) _ _ _ (subst (Still l) next (l .loop .inv .2)) (w .write-file .ensures),
     )
 
 same-length : tie.Need-same-length Inv-loop μ-loop
@@ -81,11 +105,9 @@ same-length c = c .before .loop .inv .2 .long
 returns : tie.Need-returns Inv-loop μ-loop
 returns c =
     let l = c .before in
-    let s = l .before .before .before .before .before in
-    let m = now (s .args .max-rt) in
-    let p = now (s .args .slope) in
-    let n = now (s .args .intercept) in
-    writing-done _ _ _ _ _ (subst (λ (x : List ℕ). Writing (now (s .args .out)) (s .args .at) (filesText 0 m p n) (l .loop .out) (l .loop .next) x) (files-end m _ _ (l .loop .i) (c .loop-test .left)) (l .loop .inv .2))
+    let s = start l in
+    let done = files-end (recordsOf (columns s)) (l .loop .i) (omega (arith, records-long s)) in
+    writing-done _ _ _ _ _ (subst (Still l) done (l .loop .inv .2))
 
 pub write-files-spec : {M : Type 1} → statement M
 write-files-spec =
@@ -94,13 +116,13 @@ write-files-spec =
     Inv-loop
     μ-loop
     loop-holds
+    mul-t9
+    shared-slice-read-t12
+    mul-t13
+    shared-slice-read-t15
+    mul-t16
+    shared-slice-read-t18
     cast-write-file
-    mul-write-file
-    shared-slice-read-write-file
-    mul-write-file-2
-    shared-slice-read-write-file-2
-    mul-write-file-3
-    shared-slice-read-write-file-3
     write-file-requires
     add-i
     loop-less

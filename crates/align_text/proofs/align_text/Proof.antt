@@ -1,4 +1,5 @@
--- `align_text::align_text` meets its contract: the text stands in the buffer, and is copied where it fits; by the number of the text in both cases.
+-- `align_text::align_text` meets its contract: the text stands in the buffer, and is copied where it fits; by the
+-- number of the text in both cases.
 use mathlib.Core.Path.{_≡_, sym, ap, _∙_}
 use mathlib.Core.List.{List}
 use Prim.Native.Nat.{ℕ, _≤_}

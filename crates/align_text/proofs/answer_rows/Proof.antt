@@ -6,7 +6,7 @@ use lib.ListN.{length, take}
 use lib.Seq.{length-take-le}
 use lib.Ieee.{Float}
 use denote.Ref.{now}
-use Rattle.retention_alignment.specs.Call.{Input}
+use Rattle.retention_alignment.specs.Call.{Input, inputAt}
 use Rattle.align_text.specs.Ready.{Ready}
 use Rattle.align_text.proofs.Aligning.{refused-is, accepted-is}
 use Rattle.align_text.proofs.Answers.{restated}
@@ -20,10 +20,14 @@ start g = g .before .before .before .before .before .before .before .before .bef
 abbrev input : tie.After-global-alignment → Input
 input g =
     let a = start g .args in
-    record { file = now (a .file); peptide = now (a .peptide); label = now (a .label); q = now (a .q); rt = now (a .rt); files = a .files; peptides = a .peptides }
+    inputAt (a .file) (a .peptide) (a .label) (a .q) (a .rt) (a .files) (a .peptides)
 
 ready : (g : tie.After-global-alignment) → Ready (input g) (now (start g .args .out))
 ready g = start g .pre
+
+-- where the alignment's outputs are written of
+abbrev aligned : tie.After-write-accepted-arg → tie.After-global-alignment
+aligned c = c .before .before .before .before .before .before .before .before
 
 -- the outputs are as long as they were made
 record Kept (g : tie.After-global-alignment) : Type 0 where
@@ -69,35 +73,45 @@ enum-told : tie.Need-enum-told
 enum-told c = search needs
 
 array-share-prefix-max-rt : tie.Need-array-share-prefix-max-rt
-array-share-prefix-max-rt c = let g = c .before .before .before .before .before .before .before .before in omega (arith, kept g .max-rt, ready g .files)
+array-share-prefix-max-rt c = let g = aligned c in omega (arith, kept g .max-rt, ready g .files)
 
 slice-aggregate-write-accepted : tie.Need-slice-aggregate-write-accepted
-slice-aggregate-write-accepted c = let g = c .before .before .before .before .before .before .before .before .before in sym (files-in g _ (kept g .max-rt))
+slice-aggregate-write-accepted c = let g = aligned (c .before) in sym (files-in g _ (kept g .max-rt))
 
 array-share-prefix-slope : tie.Need-array-share-prefix-slope
-array-share-prefix-slope c = let g = c .before .before .before .before .before .before .before .before .before in omega (arith, kept g .slope, ready g .files)
+array-share-prefix-slope c = let g = aligned (c .before) in omega (arith, kept g .slope, ready g .files)
 
 slice-aggregate-write-accepted-2 : tie.Need-slice-aggregate-write-accepted-2
-slice-aggregate-write-accepted-2 c = let g = c .before .before .before .before .before .before .before .before .before .before in sym (files-in g _ (kept g .slope))
+slice-aggregate-write-accepted-2 c = let g = aligned (c .before .before) in sym (files-in g _ (kept g .slope))
 
 array-share-prefix-intercept : tie.Need-array-share-prefix-intercept
-array-share-prefix-intercept c = let g = c .before .before .before .before .before .before .before .before .before .before in omega (arith, kept g .intercept, ready g .files)
+array-share-prefix-intercept c = let g = aligned (c .before .before) in omega (arith, kept g .intercept, ready g .files)
 
 slice-aggregate-write-accepted-3 : tie.Need-slice-aggregate-write-accepted-3
-slice-aggregate-write-accepted-3 c = let g = c .before .before .before .before .before .before .before .before .before .before .before in sym (files-in g _ (kept g .intercept))
+slice-aggregate-write-accepted-3 c = let g = aligned (c .before .before .before) in sym (files-in g _ (kept g .intercept))
 
 array-share-prefix-aligned : tie.Need-array-share-prefix-aligned
-array-share-prefix-aligned c = let g = c .before .before .before .before .before .before .before .before .before .before .before in omega (arith, kept g .aligned, ready g .rows)
+array-share-prefix-aligned c = let g = aligned (c .before .before .before) in omega (arith, kept g .aligned, ready g .rows)
 
 slice-aggregate-write-accepted-4 : tie.Need-slice-aggregate-write-accepted-4
-slice-aggregate-write-accepted-4 c = let g = c .before .before .before .before .before .before .before .before .before .before .before .before in sym (rows-in g _ (kept g .aligned))
+slice-aggregate-write-accepted-4 c =
+    let g = aligned (c .before .before .before .before) in
+    sym (rows-in g _ (kept g .aligned))
 
 write-accepted-requires : tie.Need-write-accepted-requires
 write-accepted-requires c κs =
-    let g = c .before .before .before .before .before .before .before .before .before .before .before .before in
+    let g = aligned (c .before .before .before .before) in
     let l = g .global-alignment .last .1 .1 .1 .1 .1 .1 .1 .1 in
     let f = files-in g (l .0) (kept g .max-rt) in
-    (omega (arith, f, rows-in g (l .1 .1 .1 .0) (kept g .aligned), ready g .files, ready g .rows, ready g .room), omega (arith, f, ready g .files), files-in g _ (kept g .slope) ∙ sym f, files-in g _ (kept g .intercept) ∙ sym f)
+    let r = rows-in g (l .1 .1 .1 .0) (kept g .aligned) in (
+      omega (arith, f, r, ready g .files, ready g .rows, ready g .room),
+      omega (arith, f, ready g .files),
+      record {
+        maxRt = refl;
+        slope = files-in g _ (kept g .slope) ∙ sym f;
+        intercept = files-in g _ (kept g .intercept) ∙ sym f;
+      },
+    )
 
 same-length : tie.Need-same-length
 same-length c = search needs
@@ -105,10 +119,17 @@ same-length c = search needs
 returns : tie.Need-returns
 returns c =
     let w = c .before .before in
-    let g = w .before .before .before .before .before .before .before .before .before .before .before .before .before in
-    let told = w .before .before .before .before .before .before in
-    let a = start g .args in
-    let h = accepted-is (input g) (now (a .out)) (ready g) _ _ _ (g .global-alignment .ensures) (record { workspace = omega arith; maxRt = omega arith; slope = omega arith; intercept = omega arith; aligned = omega arith }) (told .enum-told .given .1) in
+    let arg = w .before .before .before .before .before in
+    let g = aligned arg in
+    let out = now (start g .args .out) in
+    let h =
+    accepted-is (input g) out (ready g) _ _ _ (g .global-alignment .ensures)
+    (record {
+      workspace = omega arith;
+      records = record { maxRt = omega arith; slope = omega arith; intercept = omega arith };
+      aligned = omega arith;
+    })
+    (arg .before .enum-told .given .1) in
     restated (h .0) (h .1) (record { number = refl; wrote = w .write-accepted .ensures })
 
 refuse-requires : tie.Need-refuse-requires
@@ -122,7 +143,15 @@ returns-2 c =
     let w = c .before .before in
     let k = w .before .before .before in
     let g = k .before .before .before .before .before .before .before in
-    let h = refused-is (input g) (now (start g .args .out)) (ready g) _ _ _ (g .global-alignment .ensures) (record { workspace = omega arith; maxRt = omega arith; slope = omega arith; intercept = omega arith; aligned = omega arith }) _ (k .answer .given .1) in
+    let out = now (start g .args .out) in
+    let h =
+    refused-is (input g) out (ready g) _ _ _ (g .global-alignment .ensures)
+    (record {
+      workspace = omega arith;
+      records = record { maxRt = omega arith; slope = omega arith; intercept = omega arith };
+      aligned = omega arith;
+    })
+    _ (k .answer .given .1) in
     restated (h .0) (h .1) (w .refuse .ensures)
 
 pub answer-rows-spec : {M : Type 1} → statement M

@@ -11,7 +11,16 @@ use lib.Seq.{length-take-le}
 use denote.Ref.{now}
 use borrow.Author.Tests.{not-true, not-false}
 use Rattle.align_text.specs.AlignText.{withinLimits}
-use Rattle.align_text.proofs.Answers.{malformed-is, Given, given-by, Within, within, limited-is, aligned-is, restated}
+use Rattle.align_text.proofs.Answers.{
+  malformed-is,
+  Given,
+  given-by,
+  Within,
+  within,
+  limited-is,
+  aligned-is,
+  restated,
+}
 use borrow.Author.Needs.{needs}
 use Rattle.align_text.proofs.answer_text.Statement.{statement}
 use Rattle.align_text.proofs.answer_text.Tie as tie

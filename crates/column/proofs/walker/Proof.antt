@@ -1,5 +1,6 @@
--- `column::walker` meets its contract: a walk of its MIR, by hand. A `Column` is made of the slice and the numbers passed, in the result's local.
--- A `&[f64]` is Copy, so what it owns is had twice: once for cells at exit, and once inside the result, beside the facts of the numbers.
+-- `column::walker` meets its contract: a walk of its MIR, by hand. A `Column` is made of the slice and the numbers
+-- passed, in the result's local. A `&[f64]` is Copy, so what it owns is had twice: once for cells at exit, and once
+-- inside the result, beside the facts of the numbers.
 use mathlib.Core.Path.{refl}
 use Prim.Native.Nat.{ℕ, _<_, _^_}
 use mathlib.Core.List.{List, [], _∷_}
@@ -18,7 +19,27 @@ use contract.Monad.{Fun}
 use contract.Running.{givenOf, tables, tablesOf}
 use types.Kit.{Given, ‵, raw, _⊛_, _$_, _∵_, !, qed, by, move, use1, split, fsplit, fjoin, suffices, frame}
 use types.Part.{agg}
-use types.Run.{look, init, forget, stop, from, load, lit, and-then, no-more, assigns, returns, enter, alloc1, alloc0, params1, pass1, pass0, free1, free0}
+use types.Run.{
+  look,
+  init,
+  forget,
+  stop,
+  from,
+  load,
+  lit,
+  and-then,
+  no-more,
+  assigns,
+  returns,
+  enter,
+  alloc1,
+  alloc0,
+  params1,
+  pass1,
+  pass0,
+  free1,
+  free0,
+}
 use sound.WpLaws.{WpFn-mono}
 use denote.RattleType.{owns}
 use denote.Laws.{Is}
@@ -32,7 +53,19 @@ use denote.Struct.Rest.{own-shut}
 use denote.Triple.Entry.{Vals, onEntry}
 use denote.Triple.Spec.{Meets, tripleOf}
 use denote.Triple.Table.{entered}
-use denote.Triple.Walked.{says, Stays, stay-none, stay-none-slice, walkOf, goes-none, goes-none-slice, Walks, ends-at, walked, walk-meets}
+use denote.Triple.Walked.{
+  says,
+  Stays,
+  stay-none,
+  stay-none-slice,
+  walkOf,
+  goes-none,
+  goes-none-slice,
+  Walks,
+  ends-at,
+  walked,
+  walk-meets,
+}
 use denote.Exit.{yes}
 use Rattle.column.specs.declared.Column.{Column}
 use Rattle.column.proofs.Column as T

@@ -1,4 +1,5 @@
--- `elimination::solve_inner` meets its contract: each step's rows are those of the step before it, in the definition's order.
+-- `elimination::solve_inner` meets its contract: each step's rows are those of the step before it, in the
+-- definition's order.
 use mathlib.Core.Path.{_≡_, ap, _∙_}
 use mathlib.Core.List.{List}
 use Prim.Native.Nat.{ℕ, _+_}

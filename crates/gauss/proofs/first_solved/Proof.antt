@@ -1,5 +1,6 @@
--- `gauss::first_solved` meets its contract. The loop's invariant: what the ridges from eps on solve is what all of them solve, the ridges from eps on are
--- within the series, and the output is as it was. The measure is how many ridges are left.
+-- `gauss::first_solved` meets its contract. The loop's invariant: what the ridges from eps on solve is what all of
+-- them solve, the ridges from eps on are within the series, and the output is as it was. The measure is how many
+-- ridges are left.
 use mathlib.Core.Path.{_≡_, refl, sym, ap, _∙_}
 use mathlib.Core.List.{List}
 use mathlib.Core.Bool.{Bool, true, false}

@@ -1,11 +1,14 @@
--- `gauss::solve` meets its contract: refused where a check fails, and otherwise as the search over the needed parts answers.
+-- `gauss::solve` meets its contract: refused where a check fails, and otherwise as the search over the needed parts
+-- answers.
 use mathlib.Core.Path.{_≡_, sym, _∙_}
 use Prim.Native.Nat.{_*_, _≤_}
 use native.Mathlib.Nat.{mul-le-mul}
 use native.Mathlib.Omega.{arith}
 use lib.Seq.{length-take-le}
+use Rattle.status.specs.Status.{accepted}
+use Rattle.status.specs.Limits.{maxOrder, maxColumns}
 use Rattle.gauss.specs.Solve.{System, Slices, systemAt, slicesAt, status}
-use Rattle.gauss.proofs.Answer.{Passed, passed, accepted, refused, answered}
+use Rattle.gauss.proofs.Answer.{Passed, passed, taken, refused, answered}
 use borrow.Author.Needs.{needs}
 use Rattle.gauss.proofs.solve.Statement.{statement}
 use Rattle.gauss.proofs.solve.Tie as tie
@@ -27,14 +30,14 @@ system s = let a = s .args in systemAt (a .left) (a .right) (a .n) (a .c)
 abbrev held : tie.Start → Slices
 held s = let a = s .args in slicesAt (a .workspace) (a .solution)
 
-accepts : (c : tie.Else1) → status (system (start (c .before))) (held (start (c .before))) ≡ 0
+accepts : (c : tie.Else1) → status (system (start (c .before))) (held (start (c .before))) ≡ accepted
 accepts c = sym (c .before .check .ensures) ∙ c .if1 .left
 
 within : (c : tie.Else1) → Passed (system (start (c .before))) (held (start (c .before)))
 within c = passed _ _ (accepts c)
 
 -- the products of the two numbers
-small : (c : tie.Else1) → let a = start (c .before) .args in (a .n * a .n ≤ 100 * 100) × (a .n * a .c ≤ 100 * 8)
+small : (c : tie.Else1) → let a = start (c .before) .args in (a .n * a .n ≤ maxOrder * maxOrder) × (a .n * a .c ≤ maxOrder * maxColumns)
 small c = let p = within c in (mul-le-mul (p .order) (p .order), mul-le-mul (p .order) (p .columns))
 
 check-requires : tie.Need-check-requires
@@ -65,7 +68,7 @@ slice-aggregate-first-solved-2 : tie.Need-slice-aggregate-first-solved-2
 slice-aggregate-first-solved-2 c = sym (length-take-le _ _ (within (c .before .before) .solutionRoom))
 
 first-solved-requires : tie.Need-first-solved-requires
-first-solved-requires c κs = accepted _ _ (within (c .before .before))
+first-solved-requires c κs = taken _ _ (within (c .before .before))
 
 same-length : tie.Need-same-length
 same-length c = search needs

@@ -1,5 +1,5 @@
--- `mass::column` meets its contract: the table's rule is a test at each of its 26 entries, which antt computes; a byte below A or above Z
--- is not among the residues.
+-- `mass::column` meets its contract: the table's rule is a test at each of its 26 entries, which antt computes; a
+-- byte below A or above Z is not among the residues.
 use mathlib.Core.Path.{_≡_, _∙_, ap, sym}
 use mathlib.Core.List.{List, [], _∷_}
 use mathlib.Core.Bool.{Bool}

@@ -1,4 +1,5 @@
--- `matrix::swap_rows` meets its contract. The loop's invariant: the rows are the old ones with the first k cells of rows i and j exchanged.
+-- `matrix::swap_rows` meets its contract. The loop's invariant: the rows are the old ones with the first k cells of
+-- rows i and j exchanged.
 use mathlib.Core.Path.{_≡_, refl, sym, ap, _∙_}
 use Prim.Native.Nat.{ℕ, _+_, _-_, _*_, _≤_}
 use native.Mathlib.Omega.{arith}

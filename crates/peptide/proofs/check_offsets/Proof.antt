@@ -1,4 +1,5 @@
--- `peptide::check_offsets` meets its contract. The loop's invariant: the offsets from i on, after the one at `start`, give what the whole gives.
+-- `peptide::check_offsets` meets its contract. The loop's invariant: the offsets from i on, after the one at `start`,
+-- give what the whole gives.
 use mathlib.Core.Path.{_≡_, sym, _∙_}
 use Prim.Native.Nat.{_+_, _-_, _^_, _≤_, _<_}
 use native.Mathlib.Omega.{arith}

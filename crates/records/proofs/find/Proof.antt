@@ -19,9 +19,59 @@ use prog.Wp.{Heap, Calls, Loops, WpFn, Tables}
 use ghost.Atoms.{Atoms}
 use contract.Monad.{Fun}
 use contract.Running.{givenOf, tables, tablesOf}
-use types.Kit.{Given, ‵, _⊛_, ⋆, atRet, _$_, _∵_, !, qed, by, move, split, join, rewrite, fsplit, fjoin, suffices, frame, done}
+use types.Kit.{
+  Given,
+  ‵,
+  _⊛_,
+  ⋆,
+  atRet,
+  _$_,
+  _∵_,
+  !,
+  qed,
+  by,
+  move,
+  split,
+  join,
+  rewrite,
+  fsplit,
+  fjoin,
+  suffices,
+  frame,
+  done,
+}
 use types.Part.{whole, sub, look-in, agg}
-use types.Run.{look, look-raw, init, forget, stop, hop, fld, from, load, lit, of-opd, un, bin, and-then, no-more, assigns, assigns-last, first, branches, returns, enter, exec, alloc1, alloc0, params1, pass1, pass0, free1, free0}
+use types.Run.{
+  look,
+  look-raw,
+  init,
+  forget,
+  stop,
+  hop,
+  fld,
+  from,
+  load,
+  lit,
+  of-opd,
+  un,
+  bin,
+  and-then,
+  no-more,
+  assigns,
+  assigns-last,
+  first,
+  branches,
+  returns,
+  enter,
+  exec,
+  alloc1,
+  alloc0,
+  params1,
+  pass1,
+  pass0,
+  free1,
+  free0,
+}
 use sound.WpLaws.{WpFn-mono}
 use denote.RattleType.{owns}
 use denote.Laws.{Is, shows}
@@ -37,7 +87,19 @@ use denote.Enum.Laws as EL
 use denote.Triple.Entry.{Vals, onEntry}
 use denote.Triple.Spec.{Meets, tripleOf}
 use denote.Triple.Table.{entered}
-use denote.Triple.Walked.{says, Stays, stay-none, stay-none-slice, walkOf, goes-none, goes-none-slice, Walks, ends-at, walked, walk-meets}
+use denote.Triple.Walked.{
+  says,
+  Stays,
+  stay-none,
+  stay-none-slice,
+  walkOf,
+  goes-none,
+  goes-none-slice,
+  Walks,
+  ends-at,
+  walked,
+  walk-meets,
+}
 use denote.Exit.{yes}
 use Rattle.status.specs.Status.{badFile}
 use Rattle.rt_matrix.specs.declared.Alignment.{Alignment}
@@ -109,7 +171,8 @@ module _ {M : Type 1} (𝓤 : URA M) (H : Heap 𝓤) (A : Atoms 𝓤) (W : Given
         qed W ((‵ (flft κ q) ⊛ ‵ ftrue) ∷ ‵ Own ∷ []) ∵ enter ! C Λ code.function (s ∷ vint w32 i ∷ []) _ $
         alloc1 ! (λ l₀. alloc1 ! (λ l₁. alloc1 ! (λ l₂. alloc1 ! (λ l₃. alloc1 ! (λ l₄. alloc1 ! (λ l₅. alloc1 ! (λ l₆. alloc1 ! (λ l₇. alloc1 ! (λ l₈. alloc1 ! (λ l₉. alloc1 ! (λ l₁₀. alloc0 ! $ params1 ! $
         pass1 ! (init ! 18 refl (tt, (tt, (record { fits = room .0 }, tt)))) $ pass1 ! (init ! 16 refl (tt, record { fits = i-fits })) $ pass0 ! $
-        -- [_10; …; _9; …; _8; …; _7; …; _6; …; _5; …; _4; …; _3; …; _2; …; _1; …; _0; …; the token; what is owned]
+        -- [_10; …; _9; …; _8; …; _7; …; _6; …; _5; …; _4; …; _3; …; _2; …; _1; …; _0; …; the
+        -- token; what is owned]
         assigns ! (agg ! (and-then ! (load ! (from ! (stop !)) (look ! 16 refl)) (no-more !))) (from ! (stop !)) (init ! 14 refl (tt, (record { fits = i-fits }, tt))) $
         assigns ! (un ! (load ! (from ! (fld ! refl (stop !))) (look-in ! 14 (sub ! 0 refl (whole !)))) (record { fits = i-wide })) (from ! (stop !)) (init ! 12 refl (tt, record { fits = i-wide })) $
         assigns ! (of-opd ! (load ! (from ! (fld ! refl (stop !))) (look-in ! 18 (sub ! 1 refl (whole !))))) (from ! (stop !)) (init ! 10 refl (tt, record { fits = room .0 })) $
@@ -122,7 +185,8 @@ module _ {M : Type 1} (𝓤 : URA M) (H : Heap 𝓤) (A : Atoms 𝓤) (W : Given
         move ! (23 ∷ []) $ fsplit ! $ fsplit ! $ move ! (1 ∷ []) $ fsplit ! $ move ! (26 ∷ []) $ split ! $ move ! (3 ∷ 0 ∷ []) $
         looks-slice ! tt T.the-row (Is T.the-row) (shows 𝓤 H A T.the-row) (LL.vals T.the-type T′.the-laws) (LL.tells T.the-type T′.the-laws) (LL.copy T.the-type T′.the-copy 𝓤 H A W) ys b o (λ q′.
         elem-out ! T.the-row (Is T.the-row) (shows 𝓤 H A T.the-row) (LL.vals T.the-type T′.the-laws) (LL.tells T.the-type T′.the-laws) q′ ys i noAlignment b o l (λ g.
-        -- [records[i]; what it owns; the others; what shuts; the fractured borrow; true; res; the slice's fact; file's; _10; …; _9; …; _8; …]
+        -- [records[i]; what it owns; the others; what shuts; the fractured borrow; true; res; the slice's fact;
+        -- file's; _10; …; _9; …; _8; …]
         assigns ! (of-opd ! (load ! (from ! (hop ! (look ! 11 refl) (stop !))) (look-raw ! 0 refl))) (from ! (stop !)) (init ! 9 refl (LL.lawful T.the-type T′.the-laws 𝓤 H A W .typed elem _ g .0)) $
         elem-back ! T.the-row q′ ys i noAlignment (LL.vals T.the-type T′.the-laws elem) b o l $ shuts-slice ! tt T.the-row q′ ys b o $
         -- [the token's; the fractured borrow; true; res; the slice's fact; file's; _10; …]

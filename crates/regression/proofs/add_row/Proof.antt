@@ -1,108 +1,81 @@
--- `regression::add_row` meets its contract. The loop's invariant: the first j rows are made anew (`made j`), and start is row j's first cell.
-use mathlib.Core.Path.{refl, sym, _∙_}
+-- `regression::add_row` meets its contract: the equations' part is lent to `add_to_rows`, and comes back.
+use mathlib.Core.Path.{_≡_, ap, _∙_}
 use mathlib.Core.List.{List}
-use Prim.Native.Nat.{ℕ, _-_}
+use Prim.Native.Nat.{ℕ, _+_, _-_}
 use native.Mathlib.Omega.{arith}
-use lib.ListN.{length, getD}
-use native.Mathlib.Nat.{zero-mul}
-use lib.Ieee.{Float, nan}
+use lib.Ieee.{Float}
+use lib.ListN.{length, take, drop}
 use denote.Ref.{now}
-use Rattle.matrix.specs.Rows.{rowsOf}
-use Rattle.matrix.proofs.Laws.{is-flat, length-rowsOf}
-use Rattle.matrix.specs.Lists.{zipped}
-use Rattle.elimination.proofs.Made.{made-none, made-zipped}
-use Rattle.regression.specs.Regression.{plusScaled}
-use Rattle.elimination.proofs.Rows.{RowsMade, Turn, turn}
 use borrow.Author.Needs.{needs}
+use Rattle.matrix.specs.Rows.{rowsOf}
+use Rattle.regression.specs.Workspace.{systemLength, equations}
+use Rattle.regression.proofs.Workspace.{part-is, part-length, part-back}
 use Rattle.regression.proofs.add_row.Statement.{statement}
 use Rattle.regression.proofs.add_row.Tie as tie
 
--- row i with the extended row times its cell i added
-abbrev scaled : List Float → ℕ → List Float → List Float
-scaled ext i row = zipped (plusScaled (getD ext i nan)) row ext
+-- where the function begins, and what it was passed
+module _ (o : tie.After-system-length) where
+  abbrev s : tie.Start
+  s = o .before .before .before
 
-abbrev Inv-loop : tie.InvT-loop
-Inv-loop acc₀ ext w start₀ j₀ acc start j = RowsMade (length ext) (length ext - 1) (scaled ext) acc₀ acc start j
+  abbrev ws : List Float
+  ws = now (s .args .workspace)
 
-abbrev μ-loop : tie.MeasureT-loop
-μ-loop acc₀ ext w start₀ j₀ acc start j = length ext - j
+  abbrev half : ℕ
+  half = o .system-length .result
 
-loop-holds : tie.Need-loop-holds Inv-loop μ-loop
-loop-holds c = (search needs, sym (zero-mul _), made-none _ _, refl)
+  -- the equations' part and its width
+  part : take (length ws - half) (drop half ws) ≡ drop (systemLength (s .args .d)) ws
+  part = part-is (s .args .d) half ws (s .pre .0 .count) (o .system-length .ensures)
 
-add-loop : tie.Need-add-loop Inv-loop μ-loop
-add-loop c = search needs
+  rows : (w : ℕ) → w ≡ s .args .d + 1
+      → rowsOf w (w - 1) (take (length ws - half) (drop half ws)) ≡ equations (s .args .d) ws
+  rows w e = let n : w - 1 ≡ s .args .d = omega arith in rw (n, e, part)
 
--- a turn of the loop
-here : (c : tie.In-loop Inv-loop μ-loop) → let a = c .before .before .before .before .args in let l = c .before .loop in let w = length (now (a .ext)) in Turn w (w - 1) (scaled (now (a .ext))) (now (a .acc)) (l .acc) (l .start) (l .j)
-here c =
-    let a = c .before .before .before .before .args in
-    let l = c .before .loop in
-    let w = length (now (a .ext)) in
-    turn w (w - 1) (scaled (now (a .ext))) (now (a .acc)) (l .acc) (l .start) (l .j) (l .inv) (omega arith) (omega arith)
+system-length-requires : tie.Need-system-length-requires
+system-length-requires c κs = search needs
 
-add-end : tie.Need-add-end Inv-loop μ-loop
-add-end c = omega (arith, here c .fits)
+mul-add-to-rows : tie.Need-mul-add-to-rows
+mul-add-to-rows c = search needs
 
-mul-add-scaled : tie.Need-mul-add-scaled Inv-loop μ-loop
-mul-add-scaled c = omega (arith, here c .fits)
+sub-add-to-rows : tie.Need-sub-add-to-rows
+sub-add-to-rows c = search needs
 
-sub-add-scaled : tie.Need-sub-add-scaled Inv-loop μ-loop
-sub-add-scaled c = search needs
+part-add-to-rows-start : tie.Need-part-add-to-rows-start
+part-add-to-rows-start c = search needs
 
-part-add-scaled-start : tie.Need-part-add-scaled-start Inv-loop μ-loop
-part-add-scaled-start c = search needs
+part-add-to-rows-end : tie.Need-part-add-to-rows-end
+part-add-to-rows-end c = search needs
 
-part-add-scaled-end : tie.Need-part-add-scaled-end Inv-loop μ-loop
-part-add-scaled-end c = omega (arith, here c .fits)
+add-to-rows-requires : tie.Need-add-to-rows-requires
+add-to-rows-requires c κs =
+    let o = c .before in
+    let d = s o .args .d in
+    let e = ap length (part o) ∙ part-length d (half o) (ws o) (s o .pre .0 .count) (o .system-length .ensures) in
+    let w = s o .pre .1 in
+    let n : length (now (s o .args .ext)) - 1 ≡ d = omega arith in
+    rw (n, w) (e ∙ omega arith)
 
-mul-add-scaled-2 : tie.Need-mul-add-scaled-2 Inv-loop μ-loop
-mul-add-scaled-2 c = search needs
-
-shared-slice-read-add-scaled : tie.Need-shared-slice-read-add-scaled Inv-loop μ-loop
-shared-slice-read-add-scaled c = search needs
-
-add-scaled-requires : tie.Need-add-scaled-requires Inv-loop μ-loop
-add-scaled-requires c κs = search needs
-
-add-j : tie.Need-add-j Inv-loop μ-loop
-add-j c = search needs
-
-loop-less : tie.Need-loop-less Inv-loop μ-loop
-loop-less c = search needs
-
-loop-again : tie.Need-loop-again Inv-loop μ-loop
-loop-again c = let done = c .before .before .add-scaled in here (c .before .before .before .before .before) .next (done .last .0) (done .kept .0) (done .ensures)
-
-same-length : tie.Need-same-length Inv-loop μ-loop
+same-length : tie.Need-same-length
 same-length c = search needs
 
-returns : tie.Need-returns Inv-loop μ-loop
+returns : tie.Need-returns
 returns c =
-    let l = c .before .loop in
-    let a = c .before .before .before .before .args in
-    let w : ℕ = length (now (a .ext)) in
-    is-flat w (w - 1) (l .acc) _ (omega arith)
-    (l .inv .2 ∙ made-zipped (λ row x. zipped (plusScaled x) row (now (a .ext))) nan (l .j) (rowsOf w (w - 1) (now (a .acc))) (now (a .ext)) (simp length-rowsOf (omega arith)) (simp length-rowsOf (omega arith)))
+    let o = c .before .before .before .before in
+    let a = s o .args in
+    let e = rows o (length (now (a .ext))) (s o .pre .1) in
+    part-back (a .d) (half o) (ws o) (s o .pre .0 .count) (o .system-length .ensures) _ _
+    (rw e at (c .before .before .add-to-rows .ensures))
 
 pub add-row-spec : {M : Type 1} → statement M
 add-row-spec =
     tie.close
     (tie.spec
-    Inv-loop
-    μ-loop
-    loop-holds
-    add-loop
-    add-end
-    mul-add-scaled
-    sub-add-scaled
-    part-add-scaled-start
-    part-add-scaled-end
-    mul-add-scaled-2
-    shared-slice-read-add-scaled
-    add-scaled-requires
-    add-j
-    loop-less
-    loop-again
+    system-length-requires
+    mul-add-to-rows
+    sub-add-to-rows
+    part-add-to-rows-start
+    part-add-to-rows-end
+    add-to-rows-requires
     same-length
     returns)

@@ -1,4 +1,5 @@
--- `regression::add_scaled` meets its contract. The loop's invariant: the first k cells are made anew (`made k`), and the length is as it was.
+-- `regression::add_scaled` meets its contract. The loop's invariant: the first k cells are made anew (`made k`), and
+-- the length is as it was.
 use mathlib.Core.Path.{_≡_, refl, _∙_}
 use Prim.Native.Nat.{_≤_, _-_}
 use native.Mathlib.Omega.{arith}

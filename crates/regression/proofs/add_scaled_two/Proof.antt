@@ -1,5 +1,5 @@
--- `regression::add_scaled_two` meets its contract. The loop's invariant: the first k cells are made anew (`made k`), by one product and then the other, and
--- the length is as it was.
+-- `regression::add_scaled_two` meets its contract. The loop's invariant: the first k cells are made anew (`made k`), by
+-- one product and then the other, and the length is as it was.
 use mathlib.Core.Path.{_≡_, refl, ap, _∙_}
 use mathlib.Core.List.{List}
 use Prim.Native.Nat.{ℕ, _≤_, _-_}

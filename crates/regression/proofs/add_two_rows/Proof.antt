@@ -1,130 +1,81 @@
--- `regression::add_two_rows` meets its contract. The loop's invariant: the first j rows are made anew (`RowsMade`), by one sample and then the other.
-use mathlib.Core.Path.{_≡_, refl, sym, ap, _∙_}
+-- `regression::add_two_rows` meets its contract: the equations' part is lent to `add_two_to_rows`, and comes back.
+use mathlib.Core.Path.{_≡_, sym, ap, _∙_}
 use mathlib.Core.List.{List}
-use Prim.Native.Nat.{ℕ, _≤_, _-_}
-use native.Mathlib.Nat.{zero-mul}
+use Prim.Native.Nat.{ℕ, _+_, _-_}
 use native.Mathlib.Omega.{arith}
-use lib.ListN.{length, getD}
-use lib.Ieee.{Float, nan}
+use lib.Ieee.{Float}
+use lib.ListN.{length, take, drop}
 use denote.Ref.{now}
-use Rattle.matrix.specs.Rows.{rowsOf}
-use Rattle.matrix.specs.Lists.{zipped}
-use Rattle.matrix.proofs.Laws.{is-flat, length-rowsOf}
-use Rattle.matrix.proofs.Lists.{length-zipped}
-use Rattle.elimination.proofs.Made.{made, made-none, made-twice, made-zipped}
-use Rattle.regression.specs.Regression.{plusScaled, addRow}
-use Rattle.elimination.proofs.Rows.{RowsMade, Turn, turn}
 use borrow.Author.Needs.{needs}
+use Rattle.matrix.specs.Rows.{rowsOf}
+use Rattle.regression.specs.Workspace.{systemLength, equations}
+use Rattle.regression.proofs.Workspace.{part-is, part-length, part-back}
 use Rattle.regression.proofs.add_two_rows.Statement.{statement}
 use Rattle.regression.proofs.add_two_rows.Tie as tie
 
--- row i with an extended row times its cell i added
-abbrev scaled : List Float → ℕ → List Float → List Float
-scaled ext i row = zipped (plusScaled (getD ext i nan)) row ext
+-- where the function begins, and what it was passed
+module _ (o : tie.After-system-length) where
+  abbrev s : tie.Start
+  s = o .before .before .before .before
 
-abbrev Inv-loop : tie.InvT-loop
-Inv-loop acc₀ first second w start₀ j₀ acc start j =
-    RowsMade (length first) (length first - 1) (λ i row. scaled second i (scaled first i row)) acc₀ acc start j
+  abbrev ws : List Float
+  ws = now (s .args .workspace)
 
-abbrev μ-loop : tie.MeasureT-loop
-μ-loop acc₀ first second w start₀ j₀ acc start j = length first - j
+  abbrev half : ℕ
+  half = o .system-length .result
 
--- a turn of the loop
-here : (c : tie.In-loop Inv-loop μ-loop) → let a = c .before .before .before .before .before .args in let l = c .before .loop in let w = length (now (a .first)) in Turn w (w - 1) (λ i row. scaled (now (a .second)) i (scaled (now (a .first)) i row)) (now (a .acc)) (l .acc) (l .start) (l .j)
-here c =
-    let a = c .before .before .before .before .before .args in
-    let l = c .before .loop in
-    let w = length (now (a .first)) in
-    turn w (w - 1) (λ i row. scaled (now (a .second)) i (scaled (now (a .first)) i row)) (now (a .acc)) (l .acc) (l .start) (l .j) (l .inv) (omega arith) (omega arith)
+  -- the equations' part and its width
+  part : take (length ws - half) (drop half ws) ≡ drop (systemLength (s .args .d)) ws
+  part = part-is (s .args .d) half ws (s .pre .0 .count) (o .system-length .ensures)
 
--- all rows made anew, by one sample and then the other
-both : (first second : List Float) (n j : ℕ) (old : List (List Float)) → length old ≡ n → n ≤ length first → length second ≡ length first → n ≤ j
-    → made (λ i row. scaled second i (scaled first i row)) j old ≡ addRow (addRow old first) second
-both first second n j old l f e h =
-    let g : List Float → Float → List Float = λ row x. zipped (plusScaled x) row first in
-    let one : made (scaled first) j old ≡ addRow old first = made-zipped g nan j old first (omega arith) (omega arith) in
-    let m : length (addRow old first) ≡ length old = length-zipped g old first in
-    made-twice (scaled first) (scaled second) j old
-    ∙ ap (made (scaled second) j) one
-    ∙ made-zipped (λ row x. zipped (plusScaled x) row second) nan j (addRow old first) second (omega arith) (omega arith)
+  rows : (w : ℕ) → w ≡ s .args .d + 1
+      → rowsOf w (w - 1) (take (length ws - half) (drop half ws)) ≡ equations (s .args .d) ws
+  rows w e = let n : w - 1 ≡ s .args .d = omega arith in rw (n, e, part)
 
-loop-holds : tie.Need-loop-holds Inv-loop μ-loop
-loop-holds c = (search needs, sym (zero-mul _), made-none _ _, refl)
+system-length-requires : tie.Need-system-length-requires
+system-length-requires c κs = search needs
 
-add-loop : tie.Need-add-loop Inv-loop μ-loop
-add-loop c = search needs
+mul-add-two-to-rows : tie.Need-mul-add-two-to-rows
+mul-add-two-to-rows c = search needs
 
-add-end : tie.Need-add-end Inv-loop μ-loop
-add-end c = omega (arith, here c .fits)
+sub-add-two-to-rows : tie.Need-sub-add-two-to-rows
+sub-add-two-to-rows c = search needs
 
-mul-add-scaled-two : tie.Need-mul-add-scaled-two Inv-loop μ-loop
-mul-add-scaled-two c = omega (arith, here c .fits)
+part-add-two-to-rows-start : tie.Need-part-add-two-to-rows-start
+part-add-two-to-rows-start c = search needs
 
-sub-add-scaled-two : tie.Need-sub-add-scaled-two Inv-loop μ-loop
-sub-add-scaled-two c = search needs
+part-add-two-to-rows-end : tie.Need-part-add-two-to-rows-end
+part-add-two-to-rows-end c = search needs
 
-part-add-scaled-two-start : tie.Need-part-add-scaled-two-start Inv-loop μ-loop
-part-add-scaled-two-start c = search needs
+add-two-to-rows-requires : tie.Need-add-two-to-rows-requires
+add-two-to-rows-requires c κs =
+    let o = c .before in
+    let d = s o .args .d in
+    let e = ap length (part o) ∙ part-length d (half o) (ws o) (s o .pre .0 .count) (o .system-length .ensures) in
+    let w = s o .pre .1 .0 in
+    let n : length (now (s o .args .first)) - 1 ≡ d = omega arith in
+    (rw (n, w) (e ∙ omega arith), s o .pre .1 .1 ∙ sym (s o .pre .1 .0))
 
-part-add-scaled-two-end : tie.Need-part-add-scaled-two-end Inv-loop μ-loop
-part-add-scaled-two-end c = omega (arith, here c .fits)
-
-mul-add-scaled-two-2 : tie.Need-mul-add-scaled-two-2 Inv-loop μ-loop
-mul-add-scaled-two-2 c = search needs
-
-shared-slice-read-add-scaled-two : tie.Need-shared-slice-read-add-scaled-two Inv-loop μ-loop
-shared-slice-read-add-scaled-two c = search needs
-
-mul-add-scaled-two-3 : tie.Need-mul-add-scaled-two-3 Inv-loop μ-loop
-mul-add-scaled-two-3 c = search needs
-
-shared-slice-read-add-scaled-two-2 : tie.Need-shared-slice-read-add-scaled-two-2 Inv-loop μ-loop
-shared-slice-read-add-scaled-two-2 c = search needs
-
-add-scaled-two-requires : tie.Need-add-scaled-two-requires Inv-loop μ-loop
-add-scaled-two-requires c κs = search needs
-
-add-j : tie.Need-add-j Inv-loop μ-loop
-add-j c = search needs
-
-loop-less : tie.Need-loop-less Inv-loop μ-loop
-loop-less c = search needs
-
-loop-again : tie.Need-loop-again Inv-loop μ-loop
-loop-again c = let done = c .before .before .add-scaled-two in here (c .before .before .before .before .before .before) .next (done .last .0) (done .kept .0) (done .ensures)
-
-same-length : tie.Need-same-length Inv-loop μ-loop
+same-length : tie.Need-same-length
 same-length c = search needs
 
-returns : tie.Need-returns Inv-loop μ-loop
+returns : tie.Need-returns
 returns c =
-    let l = c .before .loop in
-    let s = c .before .before .before .before .before in
-    let a = s .args in
-    let w : ℕ = length (now (a .first)) in
-    is-flat w (w - 1) (l .acc) _ (omega arith)
-    (l .inv .2 ∙ both (now (a .first)) (now (a .second)) (w - 1) (l .j) (rowsOf w (w - 1) (now (a .acc))) (length-rowsOf _ _ _) (omega arith) (s .pre .1) (omega arith))
+    let o = c .before .before .before .before in
+    let a = s o .args in
+    let e = rows o (length (now (a .first))) (s o .pre .1 .0) in
+    part-back (a .d) (half o) (ws o) (s o .pre .0 .count) (o .system-length .ensures) _ _
+    (rw e at (c .before .before .add-two-to-rows .ensures))
 
 pub add-two-rows-spec : {M : Type 1} → statement M
 add-two-rows-spec =
     tie.close
     (tie.spec
-    Inv-loop
-    μ-loop
-    loop-holds
-    add-loop
-    add-end
-    mul-add-scaled-two
-    sub-add-scaled-two
-    part-add-scaled-two-start
-    part-add-scaled-two-end
-    mul-add-scaled-two-2
-    shared-slice-read-add-scaled-two
-    mul-add-scaled-two-3
-    shared-slice-read-add-scaled-two-2
-    add-scaled-two-requires
-    add-j
-    loop-less
-    loop-again
+    system-length-requires
+    mul-add-two-to-rows
+    sub-add-two-to-rows
+    part-add-two-to-rows-start
+    part-add-two-to-rows-end
+    add-two-to-rows-requires
     same-length
     returns)

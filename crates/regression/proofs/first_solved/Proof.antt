@@ -1,9 +1,9 @@
--- `regression::first_solved` meets its contract. The loop's invariant: the normal equations and beta are as they were, and the first ridge from eps on that
--- solves them is the first of the whole series.
+-- `regression::first_solved` meets its contract. The loop's invariant: the normal equations and beta are as they were,
+-- and the first ridge from eps on that solves them is the first of the whole series.
 use mathlib.Core.Path.{_≡_, refl, sym, _∙_, ap}
 use mathlib.Core.Bool.{Bool, true, false}
 use mathlib.Core.List.{List}
-use Prim.Native.Nat.{ℕ, _+_, _/_}
+use Prim.Native.Nat.{ℕ, _+_}
 use native.Mathlib.Nat.{mul-one}
 use native.Mathlib.Omega.{arith}
 use lib.ListN.{length, take, drop, length-take}
@@ -13,7 +13,8 @@ use Rattle.matrix.specs.Rows.{rowsOf}
 use Rattle.float.specs.Number.{one64, tiny64}
 use Rattle.elimination.specs.Elimination.{eliminate}
 use Rattle.elimination.specs.Ridge.{ten64, ridges, ridgesFrom, firstSolved, solved, unsolved, rightSide}
-use Rattle.regression.specs.Solve.{systemLength, kept, Attempted, Found}
+use Rattle.regression.specs.Workspace.{systemLength, equations}
+use Rattle.regression.specs.Solve.{Attempted, Found, solutionIn}
 use Rattle.regression.specs.declared.FirstRidge.the-variants.{Solves}
 use Rattle.elimination.proofs.Ridges.{Within, within-first, within-next, fewer, solves-here, solves-later, none-solves}
 use borrow.Author.Needs.{needs}
@@ -26,26 +27,27 @@ Inv-loop workspace₀ d beta₀ half eps₀ workspace beta eps =
     × (drop (systemLength d) workspace ≡ drop (systemLength d) workspace₀)
     × (beta ≡ beta₀)
     × Within eps
-    × (firstSolved d (kept d workspace₀) (ridgesFrom 16 eps) ≡ firstSolved d (kept d workspace₀) ridges)
+    × (firstSolved d (equations d workspace₀) (ridgesFrom 16 eps) ≡ firstSolved d (equations d workspace₀) ridges)
 
 abbrev μ-loop : tie.MeasureT-loop
 μ-loop workspace₀ d beta₀ half eps₀ workspace beta eps = length (ridgesFrom 16 eps)
 
 -- a try with the ridge eps
-module _ (d : ℕ) (ws₀ ws ws₁ beta₀ beta : List Float) (eps : Float) (half : ℕ) (inv : Inv-loop ws₀ d beta₀ half tiny64 ws beta eps) (small : le eps one64 ≡ true)
+module _ (d : ℕ) (ws₀ ws ws₁ beta₀ beta : List Float) (eps : Float) (half : ℕ)
+    (inv : Inv-loop ws₀ d beta₀ half tiny64 ws beta eps) (small : le eps one64 ≡ true)
     (r : Bool) (tried : Attempted d eps ws ws₁ r) where
-  rows : kept d ws ≡ kept d ws₀
+  rows : equations d ws ≡ equations d ws₀
   rows = ap (rowsOf (d + 1) d) (inv .1)
 
   -- it solved the system
   found : (beta₁ : List Float) → half ≡ systemLength d → r ≡ true
       → beta₁ ≡ rightSide d (rowsOf (d + 1) d (take half ws₁))
-      → Found (firstSolved d (kept d ws₀) ridges) beta₀ beta₁ (Solves eps)
+      → Found (solutionIn d ws₀) beta₀ beta₁ (Solves eps)
   found beta₁ h t copied =
-      let right : beta₁ ≡ rightSide d (eliminate d eps (kept d ws₀)) = copied ∙ rw (h, tried .system, rows) in
-      let e : firstSolved d (kept d ws₀) ridges ≡ solved eps (rightSide d (eliminate d eps (kept d ws₀))) =
-      sym (inv .4) ∙ solves-here d (kept d ws₀) eps (inv .3) small (rw rows at (sym (tried .answer) ∙ t)) in
-      record { answer = rw e; beta = rw e right }
+      let right : beta₁ ≡ rightSide d (eliminate d eps (equations d ws₀)) = copied ∙ rw (h, tried .system, rows) in
+      let e : solutionIn d ws₀ ≡ solved eps (rightSide d (eliminate d eps (equations d ws₀))) =
+      sym (inv .4) ∙ solves-here d (equations d ws₀) eps (inv .3) small (rw rows at (sym (tried .answer) ∙ t)) in
+      record { answer = rw e; coefficients = rw e right }
 
   -- it did not
   goes-on : length ws₁ ≡ length ws → r ≡ false → Inv-loop ws₀ d beta₀ half tiny64 ws₁ beta (mul binary64 eps ten64)
@@ -54,8 +56,38 @@ module _ (d : ℕ) (ws₀ ws ws₁ beta₀ beta : List Float) (eps : Float) (hal
     tried .rest ∙ inv .1,
     inv .2,
     within-next eps (inv .3) small,
-    sym (solves-later d (kept d ws₀) eps (inv .3) small (rw rows at (sym (tried .answer) ∙ t))) ∙ inv .4,
+    sym (solves-later d (equations d ws₀) eps (inv .3) small (rw rows at (sym (tried .answer) ∙ t))) ∙ inv .4,
   )
+
+-- where the function begins, and half of the workspace
+module _ (at : tie.At-loop Inv-loop μ-loop) where
+  abbrev s : tie.Start Inv-loop μ-loop
+  s = at .before .before .before .before
+
+  abbrev half : ℕ
+  half = at .before .system-length .result
+
+  half-is : half ≡ systemLength (s .args .d)
+  half-is = at .before .system-length .ensures
+
+-- a try was made
+module _ (e : tie.After-attempt Inv-loop μ-loop) where
+  abbrev turn : tie.In-loop Inv-loop μ-loop
+  turn = e .before .before
+
+  abbrev at : tie.At-loop Inv-loop μ-loop
+  at = turn .before
+
+  abbrev cells : List Float
+  cells = e .attempt .last .0
+
+  long : length cells ≡ half at + half at
+  long =
+      let n : length cells ≡ length (now (s at .args .workspace)) = e .attempt .kept .0 ∙ at .loop .inv .0 in
+      omega (arith, n, half-is at, s at .pre .0 .count)
+
+system-length-requires : tie.Need-system-length-requires Inv-loop μ-loop
+system-length-requires c κs = search needs
 
 loop-holds : tie.Need-loop-holds Inv-loop μ-loop
 unfolding ofBits round
@@ -63,52 +95,56 @@ loop-holds c = (refl, refl, refl, within-first, refl)
 
 attempt-requires : tie.Need-attempt-requires Inv-loop μ-loop
 attempt-requires c κs =
-    let p = c .before .before .before .before .before .pre in
-    record { order = p .0 .order; count = c .before .before .loop .inv .0 ∙ p .0 .count }
+    let at = c .before .before in
+    let room = s at .pre .0 in
+    record { order = room .order; count = at .loop .inv .0 ∙ room .count }
 
 slice-reshare-prefix-right-side : tie.Need-slice-reshare-prefix-right-side Inv-loop μ-loop
-slice-reshare-prefix-right-side c = search needs
+slice-reshare-prefix-right-side c = omega (arith, long (c .before .before .before .before))
 
 slice-aggregate-right-side : tie.Need-slice-aggregate-right-side Inv-loop μ-loop
-slice-aggregate-right-side c = simp length-take (omega arith)
+slice-aggregate-right-side c = simp length-take (omega (arith, long (c .before .before .before .before .before)))
 
 right-side-requires : tie.Need-right-side-requires Inv-loop μ-loop
 right-side-requires c κs =
-    let a = c .before .before .before .before .before .before .before .before .before .before .before in
-    let l = c .before .before .before .before .before .before .before .before .loop in
-    (ap length (l .inv .2) ∙ a .pre .1 ∙ sym (mul-one _), simp length-take (omega arith))
+    let e = c .before .before .before .before .before in (
+      ap length (at e .loop .inv .2) ∙ s (at e) .pre .1 ∙ sym (mul-one _),
+      simp length-take (omega (arith, long e, half-is (at e))),
+    )
 
 same-length : tie.Need-same-length Inv-loop μ-loop
 same-length c = search needs
 
 same-length-2 : tie.Need-same-length-2 Inv-loop μ-loop
 same-length-2 c =
-    c .before .before .right-side .kept .0 ∙ ap length (c .before .before .before .before .before .before .before .before .before .before .before .loop .inv .2)
+    let e = c .before .before .before .before .before .before .before .before in
+    c .before .before .right-side .kept .0 ∙ ap length (at e .loop .inv .2)
 
 returns : tie.Need-returns Inv-loop μ-loop
 unfolding ofBits
 returns c =
-    let a = c .before .before .before .before .before .before .before .before .before .before .before .before .before .before in
-    let l = c .before .before .before .before .before .before .before .before .before .before .before .loop in
-    let test = c .before .before .before .before .before .before .before .before .before .before .loop-test in
-    let done = c .before .before .before .before .before .before .before .before .attempt in
-    found (a .args .d) (now (a .args .workspace)) (l .workspace) (done .last .0) (now (a .args .beta)) (l .beta) (l .eps) (length (now (a .args .workspace)) / 2)
-    (l .inv) (test .taken) (done .result) (done .ensures) (c .before .before .right-side .last .0) (omega arith) (c .before .before .before .before .before .if1 .taken) (c .before .before .right-side .ensures)
+    let right = c .before .before .right-side in
+    let e = c .before .before .before .before .before .before .before .before in
+    let a = s (at e) .args in
+    let l = at e .loop in
+    found (a .d) (now (a .workspace)) (l .workspace) (cells e) (now (a .beta)) (l .beta) (l .eps) (half (at e)) (l .inv)
+    (turn e .loop-test .taken) (e .attempt .result) (e .attempt .ensures) (right .last .0) (half-is (at e))
+    (c .before .before .before .before .before .if1 .taken) (right .ensures)
 
 loop-less : tie.Need-loop-less Inv-loop μ-loop
 unfolding ofBits
 loop-less c =
-    fewer (c .before .before .before .before .before .before .loop .eps) (c .before .before .before .before .before .before .loop .inv .3) (c .before .before .before .before .before .loop-test .taken)
+    let e = c .before .before .before in
+    fewer (at e .loop .eps) (at e .loop .inv .3) (turn e .loop-test .taken)
 
 loop-again : tie.Need-loop-again Inv-loop μ-loop
 unfolding ofBits
 loop-again c =
-    let a = c .before .before .before .before .before .before .before .before .before in
-    let l = c .before .before .before .before .before .before .loop in
-    let test = c .before .before .before .before .before .loop-test in
-    let done = c .before .before .before .attempt in
-    goes-on (a .args .d) (now (a .args .workspace)) (l .workspace) (done .last .0) (now (a .args .beta)) (l .beta) (l .eps) (length (now (a .args .workspace)) / 2)
-    (l .inv) (test .taken) (done .result) (done .ensures) (done .kept .0) (c .if1 .left)
+    let e = c .before .before .before in
+    let a = s (at e) .args in
+    let l = at e .loop in
+    goes-on (a .d) (now (a .workspace)) (l .workspace) (cells e) (now (a .beta)) (l .beta) (l .eps) (half (at e)) (l .inv)
+    (turn e .loop-test .taken) (e .attempt .result) (e .attempt .ensures) (e .attempt .kept .0) (c .if1 .left)
 
 same-length-3 : tie.Need-same-length-3 Inv-loop μ-loop
 same-length-3 c = search needs
@@ -119,10 +155,11 @@ same-length-4 c = search needs
 returns-2 : tie.Need-returns-2 Inv-loop μ-loop
 unfolding ofBits
 returns-2 c =
-    let a = c .before .before .before .before in
+    let a = s (c .before) .args in
     let l = c .before .loop in
-    let e : firstSolved (a .args .d) (kept (a .args .d) (now (a .args .workspace))) ridges ≡ unsolved = sym (l .inv .4) ∙ none-solves _ _ (l .eps) (c .loop-test .left) in
-    record { answer = rw e; beta = rw e (l .inv .2) }
+    let e : solutionIn (a .d) (now (a .workspace)) ≡ unsolved =
+    sym (l .inv .4) ∙ none-solves _ _ (l .eps) (c .loop-test .left) in
+    record { answer = rw e; coefficients = rw e (l .inv .2) }
 
 pub first-solved-spec : {M : Type 1} → statement M
 first-solved-spec =
@@ -130,6 +167,7 @@ first-solved-spec =
     (tie.spec
     Inv-loop
     μ-loop
+    system-length-requires
     loop-holds
     attempt-requires
     slice-reshare-prefix-right-side

@@ -1,4 +1,5 @@
--- `regression::predict` meets its contract. The loop's invariant: the sum so far with the products of the columns left is the whole sum.
+-- `regression::predict` meets its contract. The loop's invariant: the sum so far with the products of the columns left
+-- is the whole sum.
 use mathlib.Core.Path.{_≡_, refl, _∙_}
 use mathlib.Core.List.{List, [], _∷_, zipWith}
 use Prim.Native.Nat.{_≤_, _-_, _<_}

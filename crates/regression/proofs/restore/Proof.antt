@@ -1,5 +1,5 @@
--- `regression::restore` meets its contract. The loop's invariant: the second half is as it was, and the first i cells of the first half are those of the
--- second (`made i`).
+-- `regression::restore` meets its contract. The loop's invariant: the second half is as it was, and the first i cells
+-- of the first half are those of the second (`made i`).
 use mathlib.Core.Path.{_≡_, refl, sym, _∙_}
 use Prim.Native.Nat.{_+_, _≤_, _-_}
 use native.Mathlib.Nat.{add-zero}

@@ -22,7 +22,11 @@ same-length-2 c = search needs
 returns : tie.Need-returns
 returns c =
     let first = c .before .before .before .before .before .before .before .before .first-solved in
-    record { answer = first .ensures .answer; workspace = c .before .before .zeros .ensures ∙ ap (λ (n : ℕ). replicate n zero64) (first .kept .0); beta = first .ensures .beta }
+    record {
+      answer = first .ensures .answer;
+      workspace = c .before .before .zeros .ensures ∙ ap (λ (n : ℕ). replicate n zero64) (first .kept .0);
+      coefficients = first .ensures .coefficients;
+    }
 
 pub solve-spec : {M : Type 1} → statement M
 solve-spec =

@@ -18,7 +18,7 @@ use Rattle.rt_matrix.specs.declared.Alignment.{Alignment}
 use Rattle.matrix.proofs.Lists.{take-replicate, length-tabulate}
 use Rattle.retention_alignment.specs.Observation.{maxRt, maxRts}
 use Rattle.retention_alignment.specs.Alignments.{alignments, aligned}
-use Rattle.retention_alignment.specs.Call.{Input, rows, recordsFor}
+use Rattle.retention_alignment.specs.Call.{Input, inputAt, rows}
 use Rattle.retention_alignment.proofs.align.Statement.{statement}
 use Rattle.retention_alignment.proofs.align.Tie as tie
 
@@ -43,7 +43,7 @@ smallest c = c .before .before .before .before .before .before .before .before
 
 -- what is read
 abbrev input : tie.Start → Input
-input s = let a = s .args in record { file = now (a .file); peptide = now (a .peptide); label = now (a .label); q = now (a .q); rt = now (a .rt); files = a .files; peptides = a .peptides }
+input s = let a = s .args in inputAt (a .file) (a .peptide) (a .label) (a .q) (a .rt) (a .files) (a .peptides)
 
 -- the longest times as `max_rt_by_file` leaves them, and the part of the array that is borrowed next
 abbrev maxes : tie.After-max-rt-by-file → List ℕ
@@ -102,11 +102,15 @@ slice-aggregate-fit-lines c = sym (borrowed-long (c .before .before .before .bef
 fit-lines-requires : tie.Need-fit-lines-requires
 fit-lines-requires c κs =
     let d = c .before .before .before .before .before .before .before in
-    let r = longest d in
-    let s = start (r .before) in
-    let n = borrowed-long r in
+    let s = start (longest d .before) in
+    let n = borrowed-long (longest d) in
     let p = s .pre in
-    (cells-long d ∙ ap (λ (k : ℕ). s .args .peptides * k) (sym n), omega (arith, p .peptides-max), omega (arith, n, p .files-max), p .maxRt ∙ sym n, p .slope ∙ sym n, p .intercept ∙ sym n)
+    let r = p .records in (
+      cells-long d ∙ ap (λ (k : ℕ). s .args .peptides * k) (sym n),
+      omega (arith, p .peptides-max),
+      omega (arith, n, p .files-max),
+      record { maxRt = r .maxRt ∙ sym n; slope = r .slope ∙ sym n; intercept = r .intercept ∙ sym n },
+    )
 
 align-rows-requires : tie.Need-align-rows-requires
 align-rows-requires c κs =
@@ -114,8 +118,17 @@ align-rows-requires c κs =
     let s = start (longest (smallest g) .before) in
     let p = s .pre in
     let k = g .fit-lines .kept in
-    let m = k .1 .1 .1 .0 ∙ p .maxRt in
-    (p .rt, p .aligned, ap (λ (n : ℕ). allBelow n (now (s .args .file))) m ∙ p .file-numbers, k .1 .1 .1 .1 .0 ∙ p .slope ∙ sym m, k .1 .1 .1 .1 .1 .0 ∙ p .intercept ∙ sym m)
+    let c = p .records in
+    let m = k .1 .1 .1 .0 ∙ c .maxRt in (
+      p .rt,
+      p .aligned,
+      ap (λ (n : ℕ). allBelow n (now (s .args .file))) m ∙ p .file-numbers,
+      record {
+        maxRt = refl;
+        slope = k .1 .1 .1 .1 .0 ∙ c .slope ∙ sym m;
+        intercept = k .1 .1 .1 .1 .1 .0 ∙ c .intercept ∙ sym m;
+      },
+    )
 
 zeros-requires : tie.Need-zeros-requires
 zeros-requires c κs = search needs

@@ -1,5 +1,5 @@
--- `retention_alignment::align_rows` meets its contract. The loop's invariant: the first i rows' times are written (`upTo i`), and the length is as
--- it was.
+-- `retention_alignment::align_rows` meets its contract. The loop's invariant: the first i rows' times are written
+-- (`upTo i`), and the length is as it was.
 use mathlib.Core.Path.{_≡_, refl, sym, ap, _∙_}
 use mathlib.Core.List.{List, map}
 use Prim.Native.Nat.{ℕ, _-_, _*_, _≤_, _<_}
@@ -11,7 +11,7 @@ use denote.Ref.{now}
 use lib.ListN.{length, getD, length-set, length-map, List·getD-map}
 use lib.Ieee.{Float, nan}
 use Rattle.status.proofs.Laws.{below-at}
-use Rattle.rt_matrix.specs.Cells.{recordsOf}
+use Rattle.rt_matrix.specs.Columns.{FileColumns, fileColumnsAt, recordsOf}
 use Rattle.rt_matrix.specs.declared.Alignment.{Alignment}
 use Rattle.matrix.proofs.Lists.{over, zipped-over}
 use Rattle.rt_matrix.proofs.Lists.{upTo, upTo-step, upTo-all}
@@ -34,7 +34,10 @@ abbrev Inv-loop : tie.InvT-loop
 Inv-loop file rt max-rt slope intercept aligned₀ i₀ aligned i =
     (i ≤ length file)
     × (length aligned ≡ length file)
-    × ((ps : List ℕ) → length ps ≡ length file → aligned ≡ upTo over i aligned₀ (map (alignedRow (recordsOf max-rt slope intercept)) (observations file ps rt)))
+    × ((ps : List ℕ) → length ps ≡ length file → aligned
+    ≡ upTo over i aligned₀
+    (map (alignedRow (recordsOf (record { maxRt = max-rt; slope = slope; intercept = intercept })))
+    (observations file ps rt)))
 
 abbrev μ-loop : tie.MeasureT-loop
 μ-loop file rt max-rt slope intercept aligned₀ i₀ aligned i = length file - i
@@ -74,13 +77,13 @@ mul-aligned-time-2 : tie.Need-mul-aligned-time-2 Inv-loop μ-loop
 mul-aligned-time-2 c = scaled (c .before .before .before)
 
 shared-slice-read-aligned-time-2 : tie.Need-shared-slice-read-aligned-time-2 Inv-loop μ-loop
-shared-slice-read-aligned-time-2 c = let t = c .before .before .before .before in omega (arith, file-below t, start (t .before) .pre .3)
+shared-slice-read-aligned-time-2 c = let t = c .before .before .before .before in omega (arith, file-below t, start (t .before) .pre .3 .slope)
 
 mul-aligned-time-3 : tie.Need-mul-aligned-time-3 Inv-loop μ-loop
 mul-aligned-time-3 c = scaled (c .before .before .before .before)
 
 shared-slice-read-aligned-time-3 : tie.Need-shared-slice-read-aligned-time-3 Inv-loop μ-loop
-shared-slice-read-aligned-time-3 c = let t = c .before .before .before .before .before in omega (arith, file-below t, start (t .before) .pre .4)
+shared-slice-read-aligned-time-3 c = let t = c .before .before .before .before .before in omega (arith, file-below t, start (t .before) .pre .3 .intercept)
 
 mul-aligned-time-4 : tie.Need-mul-aligned-time-4 Inv-loop μ-loop
 mul-aligned-time-4 c = search needs
@@ -110,8 +113,10 @@ loop-again c =
     let s = start at in
     let a = s .args in
     let i = at .loop .i in
-    let recs = recordsOf (now (a .max-rt)) (now (a .slope)) (now (a .intercept)) in
-    let at-file = records-at (now (a .max-rt)) (now (a .slope)) (now (a .intercept)) (length (now (a .max-rt))) refl (s .pre .3) (s .pre .4) (getD (now (a .file)) i 0) noAlignment (file-below t) in (
+    let columns = fileColumnsAt (a .max-rt) (a .slope) (a .intercept) in
+    let recs = recordsOf columns in
+    let at-file =
+    records-at columns (length (now (a .max-rt))) (s .pre .3) (getD (now (a .file)) i 0) noAlignment (file-below t) in (
       omega arith,
       simp length-set (at .loop .inv .1),
       λ ps e.
@@ -133,7 +138,8 @@ returns c = λ ps e.
     let at = c .before in
     let s = start at in
     let a = s .args in
-    let recs = recordsOf (now (a .max-rt)) (now (a .slope)) (now (a .intercept)) in
+    let columns = fileColumnsAt (a .max-rt) (a .slope) (a .intercept) in
+    let recs = recordsOf columns in
     let os = observations (now (a .file)) ps (now (a .rt)) in
     at .loop .inv .2 ps e ∙ upTo-all _ _ _ _ (omega arith) ∙ zipped-over _ _ (s .pre .1 ∙ sym (length-map os (alignedRow recs) ∙ length-rows (now (a .file)) ps (now (a .rt)) e (s .pre .0)))
 

@@ -5,6 +5,8 @@ use native.Mathlib.Omega.{arith}
 use borrow.Author.Needs.{needs}
 use lib.ListN.{length, take}
 use lib.Seq.{length-take-le}
+use Rattle.rt_matrix.specs.Columns.{EachOf, firstOf, fileColumnsAt}
+use Rattle.rt_matrix.proofs.RecordColumns.{first-each}
 use Rattle.retention_alignment.specs.Call.{Input, Slices, inputAt, slicesAt}
 use Rattle.retention_alignment.proofs.Calls.{Passed, passed, refused, accepted-is}
 use Rattle.retention_alignment.proofs.global_alignment.Statement.{statement}
@@ -17,7 +19,7 @@ abbrev input : tie.Start → Input
 input s = let a = s .args in inputAt (a .file) (a .peptide) (a .label) (a .q) (a .rt) (a .files) (a .peptides)
 
 abbrev slices : tie.Start → Slices
-slices s = let a = s .args in slicesAt (a .workspace) (a .max-rt) (a .slope) (a .intercept) (a .aligned)
+slices s = let a = s .args in slicesAt (a .workspace) (fileColumnsAt (a .max-rt) (a .slope) (a .intercept)) (a .aligned)
 
 -- what the checks showed
 checks : (e : tie.Else1) → Passed (input (start (e .before))) (slices (start (e .before)))
@@ -33,34 +35,34 @@ cell-count-requires : tie.Need-cell-count-requires
 cell-count-requires c κs = let l = checks c .within in (omega (arith, l .peptides-max), omega (arith, l .files-max), omega (arith, l .cells-max))
 
 slice-relend-prefix-align : tie.Need-slice-relend-prefix-align
-slice-relend-prefix-align c = omega (arith, checks (c .before) .long .workspace-long, c .cell-count .ensures)
+slice-relend-prefix-align c = omega (arith, checks (c .before) .workspace, c .cell-count .ensures)
 
 slice-aggregate-align : tie.Need-slice-aggregate-align
-slice-aggregate-align c = let d = c .before in sym (length-take-le (d .cell-count .result) _ (omega (arith, checks (d .before) .long .workspace-long, d .cell-count .ensures)))
+slice-aggregate-align c = let d = c .before in sym (length-take-le (d .cell-count .result) _ (omega (arith, checks (d .before) .workspace, d .cell-count .ensures)))
 
 slice-relend-prefix-align-2 : tie.Need-slice-relend-prefix-align-2
-slice-relend-prefix-align-2 c = checks (c .before .before) .long .maxRt-long
+slice-relend-prefix-align-2 c = checks (c .before .before) .records .maxRt
 
 slice-aggregate-align-2 : tie.Need-slice-aggregate-align-2
-slice-aggregate-align-2 c = sym (length-take-le _ _ (checks (c .before .before .before) .long .maxRt-long))
+slice-aggregate-align-2 c = sym (length-take-le _ _ (checks (c .before .before .before) .records .maxRt))
 
 slice-relend-prefix-align-3 : tie.Need-slice-relend-prefix-align-3
-slice-relend-prefix-align-3 c = checks (c .before .before .before) .long .slope-long
+slice-relend-prefix-align-3 c = checks (c .before .before .before) .records .slope
 
 slice-aggregate-align-3 : tie.Need-slice-aggregate-align-3
-slice-aggregate-align-3 c = sym (length-take-le _ _ (checks (c .before .before .before .before) .long .slope-long))
+slice-aggregate-align-3 c = sym (length-take-le _ _ (checks (c .before .before .before .before) .records .slope))
 
 slice-relend-prefix-align-4 : tie.Need-slice-relend-prefix-align-4
-slice-relend-prefix-align-4 c = checks (c .before .before .before .before) .long .intercept-long
+slice-relend-prefix-align-4 c = checks (c .before .before .before .before) .records .intercept
 
 slice-aggregate-align-4 : tie.Need-slice-aggregate-align-4
-slice-aggregate-align-4 c = sym (length-take-le _ _ (checks (c .before .before .before .before .before) .long .intercept-long))
+slice-aggregate-align-4 c = sym (length-take-le _ _ (checks (c .before .before .before .before .before) .records .intercept))
 
 slice-relend-prefix-align-5 : tie.Need-slice-relend-prefix-align-5
-slice-relend-prefix-align-5 c = checks (c .before .before .before .before .before) .long .aligned-long
+slice-relend-prefix-align-5 c = checks (c .before .before .before .before .before) .aligned
 
 slice-aggregate-align-5 : tie.Need-slice-aggregate-align-5
-slice-aggregate-align-5 c = sym (length-take-le _ _ (checks (c .before .before .before .before .before .before) .long .aligned-long))
+slice-aggregate-align-5 c = sym (length-take-le _ _ (checks (c .before .before .before .before .before .before) .aligned))
 
 align-requires : tie.Need-align-requires
 align-requires c κs =
@@ -77,11 +79,9 @@ align-requires c κs =
       cells-max = p .within .cells-max;
       file-numbers = p .file-numbers;
       peptide-numbers = p .peptide-numbers;
-      workspace = length-take-le (d .cell-count .result) _ (omega (arith, p .long .workspace-long, n)) ∙ n;
-      maxRt = length-take-le _ _ (p .long .maxRt-long);
-      slope = length-take-le _ _ (p .long .slope-long);
-      intercept = length-take-le _ _ (p .long .intercept-long);
-      aligned = length-take-le _ _ (p .long .aligned-long);
+      workspace = length-take-le (d .cell-count .result) _ (omega (arith, p .workspace, n)) ∙ n;
+      records = first-each _ _ (p .records);
+      aligned = length-take-le _ _ (p .aligned);
     }
 
 same-length : tie.Need-same-length
@@ -107,19 +107,22 @@ returns-2 c =
     let s = start (e .before) in
     let l = w .align .last .1 .1 .1 .1 .1 .1 .1 in
     let k = w .align .kept .1 .1 .1 .1 .1 .1 .1 in
-    let p = checks e .long in
+    let p = checks e in
     let n = d .cell-count .ensures in
+    let f = first-each (s .args .files) (slices s .records) (p .records) in
     accepted-is (input s) (slices s)
-    (record { workspace = l .0; maxRt = l .1 .0; slope = l .1 .1 .0; intercept = l .1 .1 .1 .0; aligned = l .1 .1 .1 .1 .0 })
+    (record {
+      workspace = l .0;
+      records = record { maxRt = l .1 .0; slope = l .1 .1 .0; intercept = l .1 .1 .1 .0 };
+      aligned = l .1 .1 .1 .1 .0;
+    })
     (d .cell-count .result)
     (sym (e .before .check .ensures) ∙ e .if1 .left)
     n
     (w .align .ensures)
-    (k .0 ∙ length-take-le (d .cell-count .result) _ (omega (arith, p .workspace-long, n)))
-    (k .1 .0 ∙ length-take-le _ _ (p .maxRt-long))
-    (k .1 .1 .0 ∙ length-take-le _ _ (p .slope-long))
-    (k .1 .1 .1 .0 ∙ length-take-le _ _ (p .intercept-long))
-    (k .1 .1 .1 .1 .0 ∙ length-take-le _ _ (p .aligned-long))
+    (k .0 ∙ length-take-le (d .cell-count .result) _ (omega (arith, p .workspace, n)))
+    (record { maxRt = k .1 .0 ∙ f .maxRt; slope = k .1 .1 .0 ∙ f .slope; intercept = k .1 .1 .1 .0 ∙ f .intercept })
+    (k .1 .1 .1 .1 .0 ∙ length-take-le _ _ (p .aligned))
 
 pub global-alignment-spec : {M : Type 1} → statement M
 global-alignment-spec =

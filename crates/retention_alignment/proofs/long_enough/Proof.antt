@@ -1,22 +1,19 @@
--- `retention_alignment::long_enough` meets its contract: by the tests.
-use borrow.Author.Tests.{le-leb, lt-leb}
+-- `retention_alignment::long_enough` meets its contract: by the answers of the callees.
+use mathlib.Core.Path.{refl}
+use borrow.Author.Needs.{needs}
 use Rattle.retention_alignment.proofs.long_enough.Statement.{statement}
 use Rattle.retention_alignment.proofs.long_enough.Tie as tie
 
+cells-fit-requires : tie.Need-cells-fit-requires
+cells-fit-requires c κs = search needs
+
+columns-long-requires : tie.Need-columns-long-requires
+columns-long-requires c κs = search needs
+
 returns : tie.Need-returns
-returns c = simp (lt-leb _ _ (c .if1 .taken))
-
-returns-2 : tie.Need-returns-2
-returns-2 c = simp (le-leb _ _ (c .before .if1 .left), lt-leb _ _ (c .if2 .taken))
-
-returns-3 : tie.Need-returns-3
-returns-3 c = simp (le-leb _ _ (c .before .before .if1 .left), le-leb _ _ (c .before .if2 .left), lt-leb _ _ (c .if3 .taken))
-
-returns-4 : tie.Need-returns-4
-returns-4 c = simp (le-leb _ _ (c .before .before .before .if1 .left), le-leb _ _ (c .before .before .if2 .left), le-leb _ _ (c .before .if3 .left), lt-leb _ _ (c .if4 .taken))
-
-returns-5 : tie.Need-returns-5
-returns-5 c = simp (le-leb _ _ (c .before .before .before .if1 .left), le-leb _ _ (c .before .before .if2 .left), le-leb _ _ (c .before .if3 .left), le-leb _ _ (c .if4 .left))
+returns c =
+    let by-file = c .before in
+    rw (by-file .before .before .cells-fit .ensures, by-file .columns-long .ensures) refl
 
 pub long-enough-spec : {M : Type 1} → statement M
-long-enough-spec = tie.close (tie.spec returns returns-2 returns-3 returns-4 returns-5)
+long-enough-spec = tie.close (tie.spec cells-fit-requires columns-long-requires returns)

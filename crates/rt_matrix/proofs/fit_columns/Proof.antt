@@ -1,4 +1,5 @@
--- `rt_matrix::fit_columns` meets its contract: the sums and the squares, taken row by row, are those of each file's points.
+-- `rt_matrix::fit_columns` meets its contract: the sums and the squares, taken row by row, are those of each file's
+-- points.
 use mathlib.Core.Path.{_≡_, refl, sym, ap, _∙_}
 use Prim.Native.Nat.{ℕ, _+_, _*_, _<_, _^_}
 use native.Mathlib.Omega.{arith}
@@ -7,7 +8,15 @@ use denote.Ref.{now}
 use lib.ListN.{length, getD}
 use Rattle.rt_matrix.specs.Cells.{sumsOf, Sized, Fresh}
 use Rattle.rt_matrix.proofs.SumColumns.{length-sums}
-use Rattle.rt_matrix.proofs.Fitted.{fresh-sized, fresh-squares, fresh-start, fresh-count, fresh-sums, means-at, fitted}
+use Rattle.rt_matrix.proofs.Fitted.{
+  fresh-sized,
+  fresh-squares,
+  fresh-start,
+  fresh-count,
+  fresh-sums,
+  means-at,
+  fitted,
+}
 use Rattle.rt_matrix.proofs.fit_columns.Statement.{statement}
 use Rattle.rt_matrix.proofs.fit_columns.Tie as tie
 
@@ -63,7 +72,7 @@ store-alignments-requires c κs =
     let s = start (r .before) in
     let a = s .args in
     let g = s .pre .1 in
-    (after r, q .add-peptides2 .kept .1 .1 .1 .1 .0 ∙ fresh-squares (length (now (a .max))) (now (a .len)) (now (a .dot)) (now (a .sum-x)) (now (a .sum-y)) (now (a .x-mean)) (now (a .sx2)) (s .pre .0), g .3, g .4, g .5)
+    (after r, q .add-peptides2 .kept .1 .1 .1 .1 .0 ∙ fresh-squares (length (now (a .max))) (now (a .len)) (now (a .dot)) (now (a .sum-x)) (now (a .sum-y)) (now (a .x-mean)) (now (a .sx2)) (s .pre .0), g .3)
 
 same-length : tie.Need-same-length
 same-length c = search needs

@@ -74,7 +74,7 @@ fit-columns-requires c κs =
         means = sym (part (now (s .args .max)) zero64 (g .2));
         squares = take-replicate n maxFiles _ (g .2) ∙ ap (replicate n) start;
       },
-      (g .0, g .1, omega arith, g .3, g .4, g .5),
+      (g .0, g .1, omega arith, g .3),
     )
 
 same-length : tie.Need-same-length

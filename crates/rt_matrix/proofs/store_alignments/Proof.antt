@@ -1,5 +1,5 @@
--- `rt_matrix::store_alignments` meets its contract. The loop's invariant: the first f records are written (`upTo f`), and the lengths are as they
--- were.
+-- `rt_matrix::store_alignments` meets its contract. The loop's invariant: the first f records are written (`upTo f`),
+-- and the lengths are as they were.
 use mathlib.Core.Path.{_≡_, refl, sym, ap, _∙_}
 use Prim.Native.Nat.{ℕ, _+_, _-_, _≤_, _<_}
 use native.Mathlib.Omega.{arith}
@@ -8,7 +8,10 @@ use denote.Ref.{now}
 use lib.ListN.{length, getD, length-set}
 use lib.Ieee.{Float, nan}
 use Rattle.rt_matrix.specs.Line.{lineOf}
-use Rattle.rt_matrix.specs.Cells.{sumsOf, recordsOf, recordsFrom}
+use mathlib.Core.List.{List}
+use Rattle.rt_matrix.specs.Columns.{FileColumns, EachOf, recordsOf, fileColumnsAt}
+use Rattle.rt_matrix.specs.Cells.{sumsAt, sumsOf, recordsFrom}
+use Rattle.rt_matrix.specs.declared.Alignment.{Alignment}
 use Rattle.rt_matrix.specs.declared.sums.Sums.{Sums}
 use Rattle.matrix.proofs.Lists.{over, zipped-over}
 use Rattle.rt_matrix.proofs.Lists.{upTo, upTo-step, upTo-all}
@@ -17,13 +20,16 @@ use Rattle.rt_matrix.proofs.RecordColumns.{noRecord, records-set, lengt
 use Rattle.rt_matrix.proofs.store_alignments.Statement.{statement}
 use Rattle.rt_matrix.proofs.store_alignments.Tie as tie
 
+-- the columns of the records
+abbrev columns : (max-rt slope intercept : List Float) → FileColumns
+columns max-rt slope intercept = record { maxRt = max-rt; slope = slope; intercept = intercept }
+
 abbrev Inv-loop : tie.InvT-loop
 Inv-loop max len dot sum-x sum-y sx2 max-rt₀ slope₀ intercept₀ f₀ max-rt slope intercept f =
     (f ≤ length max)
-    × (length max-rt ≡ length max)
-    × (length slope ≡ length max)
-    × (length intercept ≡ length max)
-    × (recordsOf max-rt slope intercept ≡ upTo over f (recordsOf max-rt₀ slope₀ intercept₀) (recordsFrom max (sumsOf len dot sum-x sum-y) sx2))
+    × EachOf (length max) (columns max-rt slope intercept)
+    × (recordsOf (columns max-rt slope intercept)
+    ≡ upTo over f (recordsOf (columns max-rt₀ slope₀ intercept₀)) (recordsFrom max (sumsOf len dot sum-x sum-y) sx2))
 
 abbrev μ-loop : tie.MeasureT-loop
 μ-loop max len dot sum-x sum-y sx2 max-rt₀ slope₀ intercept₀ f₀ max-rt slope intercept f = length max - f
@@ -34,7 +40,7 @@ start at = at .before .before .before .before .before .before .before .before .b
 
 loop-holds : tie.Need-loop-holds Inv-loop μ-loop
 unfolding upTo
-loop-holds c = (search needs, search needs, search needs, search needs, refl)
+loop-holds c = (search needs, search needs, refl)
 
 mul-fit-line : tie.Need-mul-fit-line Inv-loop μ-loop
 mul-fit-line c = search needs
@@ -99,6 +105,24 @@ add-f c = search needs
 loop-less : tie.Need-loop-less Inv-loop μ-loop
 loop-less c = search needs
 
+-- where the function begins: the files' sums, the records that they give, and the columns as they were
+abbrev sums : tie.Start Inv-loop μ-loop → List Sums
+sums s = let a = s .args in sumsAt (a .len) (a .dot) (a .sum-x) (a .sum-y)
+
+abbrev made : tie.Start Inv-loop μ-loop → List Alignment
+made s = recordsFrom (now (s .args .max)) (sums s) (now (s .args .sx2))
+
+abbrev held : tie.Start Inv-loop μ-loop → FileColumns
+held s = let a = s .args in fileColumnsAt (a .max-rt) (a .slope) (a .intercept)
+
+sums-long : (s : tie.Start Inv-loop μ-loop) → length (sums s) ≡ length (now (s .args .max))
+sums-long s =
+    let a = s .args in
+    length-sums (now (a .len)) (now (a .dot)) (now (a .sum-x)) (now (a .sum-y)) (length (now (a .max))) (s .pre .0)
+
+made-long : (s : tie.Start Inv-loop μ-loop) → length (made s) ≡ length (now (s .args .max))
+made-long s = length-from (now (s .args .max)) (sums s) (now (s .args .sx2)) (sums-long s) (s .pre .1)
+
 loop-again : tie.Need-loop-again Inv-loop μ-loop
 loop-again c =
     let at = c .before .before .before .before .before .before .before .before in
@@ -106,19 +130,24 @@ loop-again c =
     let a = s .args in
     let f = at .loop .f in
     let inv = at .loop .inv in
-    let sums = sumsOf (now (a .len)) (now (a .dot)) (now (a .sum-x)) (now (a .sum-y)) in
-    let n = length-sums (now (a .len)) (now (a .dot)) (now (a .sum-x)) (now (a .sum-y)) (length (now (a .max))) (s .pre .0) in
+    let now-held = columns (at .loop .max-rt) (at .loop .slope) (at .loop .intercept) in
     let h : f < length (now (a .max)) = omega arith in
-    let is : c .fit-line .result ≡ getD (recordsFrom (now (a .max)) sums (now (a .sx2))) f noRecord =
+    let at-file =
+    sums-at (now (a .len)) (now (a .dot)) (now (a .sum-x)) (now (a .sum-y)) (length (now (a .max))) (s .pre .0) f h in
+    let is : c .fit-line .result ≡ getD (made s) f noRecord =
     c .fit-line .ensures
-    ∙ ap (λ (t : Sums). lineOf (getD (now (a .max)) f 0) (t .len) (t .dot) (t .«sum_x») (t .«sum_y») (getD (now (a .sx2)) f nan)) (sym (sums-at (now (a .len)) (now (a .dot)) (now (a .sum-x)) (now (a .sum-y)) (length (now (a .max))) (s .pre .0) f h))
-    ∙ sym (from-at (now (a .max)) sums (now (a .sx2)) n (s .pre .1) f h) in (
+    ∙ ap (λ (t : Sums).
+    lineOf (getD (now (a .max)) f 0) (t .len) (t .dot) (t .«sum_x») (t .«sum_y») (getD (now (a .sx2)) f nan))
+    (sym at-file)
+    ∙ sym (from-at (now (a .max)) (sums s) (now (a .sx2)) (sums-long s) (s .pre .1) f h) in (
       omega arith,
-      simp length-set (inv .1),
-      simp length-set (inv .2),
-      simp length-set (inv .3),
-      upTo-step over f (recordsOf (now (a .max-rt)) (now (a .slope)) (now (a .intercept))) (recordsFrom (now (a .max)) sums (now (a .sx2))) (recordsOf (at .loop .max-rt) (at .loop .slope) (at .loop .intercept)) _ (c .fit-line .result) noRecord noRecord (inv .4)
-          (records-set (at .loop .max-rt) (at .loop .slope) (at .loop .intercept) f (c .fit-line .result)) is (omega (arith, length-from (now (a .max)) sums (now (a .sx2)) n (s .pre .1))),
+      record {
+        maxRt = simp length-set (inv .1 .maxRt);
+        slope = simp length-set (inv .1 .slope);
+        intercept = simp length-set (inv .1 .intercept);
+      },
+      upTo-step over f (recordsOf (held s)) (made s) (recordsOf now-held) _ (c .fit-line .result) noRecord noRecord
+          (inv .2) (records-set now-held f (c .fit-line .result)) is (omega (arith, made-long s)),
     )
 
 same-length : tie.Need-same-length Inv-loop μ-loop
@@ -134,11 +163,8 @@ returns : tie.Need-returns Inv-loop μ-loop
 returns c =
     let at = c .before in
     let s = start at in
-    let a = s .args in
-    let sums = sumsOf (now (a .len)) (now (a .dot)) (now (a .sum-x)) (now (a .sum-y)) in
-    let n = length-sums (now (a .len)) (now (a .dot)) (now (a .sum-x)) (now (a .sum-y)) (length (now (a .max))) (s .pre .0) in
-    let l = length-records (now (a .max-rt)) (now (a .slope)) (now (a .intercept)) (length (now (a .max))) (s .pre .2) (s .pre .3) (s .pre .4) in
-    at .loop .inv .4 ∙ upTo-all _ _ _ _ (omega arith) ∙ zipped-over _ _ (l ∙ sym (length-from (now (a .max)) sums (now (a .sx2)) n (s .pre .1)))
+    let l = length-records (held s) (length (now (s .args .max))) (s .pre .2) in
+    at .loop .inv .2 ∙ upTo-all _ _ _ _ (omega arith) ∙ zipped-over _ _ (l ∙ sym (made-long s))
 
 pub store-alignments-spec : {M : Type 1} → statement M
 store-alignments-spec =

@@ -1,7 +1,9 @@
 -- `run::run` meets its contract: refused by the status, or the work of an accepted call.
 use mathlib.Core.Path.{_≡_, sym, _∙_}
 use Rattle.status.specs.Status.{accepted}
-use Rattle.run.specs.Call.{Input, Slices, inputAt, modelAt, slicesAt, status}
+use Rattle.rt_matrix.specs.Columns.{fileColumnsAt}
+use Rattle.models.specs.Call.{outputsAt}
+use Rattle.run.specs.Call.{Input, Slices, inputAt, slicesAt, status}
 use Rattle.run.proofs.Filling.{run-refused, run-accepted}
 use borrow.Author.Needs.{needs}
 use Rattle.run.proofs.run.Statement.{statement}
@@ -11,12 +13,16 @@ use Rattle.run.proofs.run.Tie as tie
 abbrev input : tie.Start → Input
 input s =
     let a = s .args in
-    inputAt (a .file) (a .peptide) (a .label) (a .q) (a .rt) (a .charge) (a .mobility) (a .files) (a .letters) (a .offsets) (a .masses) (a .logs)
+    inputAt
+    (a .file) (a .peptide) (a .label) (a .q) (a .rt) (a .charge) (a .mobility) (a .files)
+    (a .letters) (a .offsets) (a .masses) (a .logs)
 
 abbrev held : tie.Start → Slices
 held s =
     let a = s .args in
-    slicesAt (a .workspace) (a .max-rt) (a .slope) (a .intercept) (a .aligned) (modelAt (a .retention-beta) (a .retention-predicted) (a .retention-error)) (modelAt (a .mobility-beta) (a .mobility-predicted) (a .mobility-error))
+    slicesAt (a .workspace) (fileColumnsAt (a .max-rt) (a .slope) (a .intercept)) (a .aligned)
+    (outputsAt (a .retention-beta) (a .retention-predicted) (a .retention-error))
+    (outputsAt (a .mobility-beta) (a .mobility-predicted) (a .mobility-error))
 
 -- places in the code, each as a later one sees it
 abbrev start : tie.After-check → tie.Start
@@ -36,7 +42,9 @@ check-requires : tie.Need-check-requires
 check-requires c κs = search needs
 
 returns : tie.Need-returns
-returns c = let s = start (c .before) in run-refused (input s) (held s) (c .before .check .result) (c .before .check .ensures) (c .if1 .taken)
+returns c =
+    let s = start (c .before) in
+    run-refused (input s) (held s) (c .before .check .result) (c .before .check .ensures) (c .if1 .taken)
 
 run-accepted-requires : tie.Need-run-accepted-requires
 run-accepted-requires c κs = accepts (passed c)
@@ -80,14 +88,14 @@ returns-2 c =
     let e = passed (w .before) in
     let s = start (e .before) in
     let l = w .run-accepted .last .1 .1 .1 .1 .1 .1 .1 .1 .1 .1 .1 .1 in
+    let r = l .1 .1 .1 .1 .1 in
+    let m = r .1 .1 .1 in
     let t : Slices = record {
       workspace = l .0;
-      maxRt = l .1 .0;
-      slope = l .1 .1 .0;
-      intercept = l .1 .1 .1 .0;
+      records = record { maxRt = l .1 .0; slope = l .1 .1 .0; intercept = l .1 .1 .1 .0 };
       aligned = l .1 .1 .1 .1 .0;
-      retention = record { beta = l .1 .1 .1 .1 .1 .0; predicted = l .1 .1 .1 .1 .1 .1 .0; error = l .1 .1 .1 .1 .1 .1 .1 .0 };
-      mobility = record { beta = l .1 .1 .1 .1 .1 .1 .1 .1 .0; predicted = l .1 .1 .1 .1 .1 .1 .1 .1 .1 .0; error = l .1 .1 .1 .1 .1 .1 .1 .1 .1 .1 .0 };
+      retention = record { coefficients = r .0; predicted = r .1 .0; error = r .1 .1 .0 };
+      mobility = record { coefficients = m .0; predicted = m .1 .0; error = m .1 .1 .0 };
     } in
     run-accepted (input s) (held s) t (w .run-accepted .result) (accepts e) (w .run-accepted .ensures)
 

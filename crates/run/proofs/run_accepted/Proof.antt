@@ -1,11 +1,13 @@
--- `run::run_accepted` meets its contract: the alignment, then retention on the aligned times it wrote, then mobility, each of which accepts what it is
--- passed.
+-- `run::run_accepted` meets its contract: the alignment, then retention on the aligned times it wrote, then mobility,
+-- each of which accepts what it is passed.
 use mathlib.Core.Path.{_∙_}
 use Prim.Native.Nat.{_≤_}
 use native.Mathlib.Omega.{arith}
 use lib.ListN.{length, length-take}
 use Rattle.retention_alignment.specs.Call.{Slices as AlignSlices}
-use Rattle.run.specs.Call.{Input, Slices, inputAt, modelAt, slicesAt, roomOf}
+use Rattle.rt_matrix.specs.Columns.{fileColumnsAt}
+use Rattle.models.specs.Call.{PredictSlices, outputsAt}
+use Rattle.run.specs.Call.{Input, Slices, inputAt, slicesAt, roomOf}
 use Rattle.run.proofs.Accepted.{Passed, passed}
 use Rattle.run.proofs.Filling.{run-filled}
 use borrow.Author.Needs.{needs}
@@ -16,12 +18,16 @@ use Rattle.run.proofs.run_accepted.Tie as tie
 abbrev input : tie.Start → Input
 input s =
     let a = s .args in
-    inputAt (a .file) (a .peptide) (a .label) (a .q) (a .rt) (a .charge) (a .mobility) (a .files) (a .letters) (a .offsets) (a .masses) (a .logs)
+    inputAt
+    (a .file) (a .peptide) (a .label) (a .q) (a .rt) (a .charge) (a .mobility) (a .files)
+    (a .letters) (a .offsets) (a .masses) (a .logs)
 
 abbrev held : tie.Start → Slices
 held s =
     let a = s .args in
-    slicesAt (a .workspace) (a .max-rt) (a .slope) (a .intercept) (a .aligned) (modelAt (a .retention-beta) (a .retention-predicted) (a .retention-error)) (modelAt (a .mobility-beta) (a .mobility-predicted) (a .mobility-error))
+    slicesAt (a .workspace) (fileColumnsAt (a .max-rt) (a .slope) (a .intercept)) (a .aligned)
+    (outputsAt (a .retention-beta) (a .retention-predicted) (a .retention-error))
+    (outputsAt (a .mobility-beta) (a .mobility-predicted) (a .mobility-error))
 
 has-passed : (s : tie.Start) → Passed (input s) (roomOf (held s))
 has-passed s = passed (input s) (roomOf (held s)) (s .pre)
@@ -114,17 +120,29 @@ returns c =
     let g = alignment c in
     let s = start g in
     let align = g .global-alignment in
-    let aligned = align .last .1 .1 .1 .1 .1 .1 .1 in
-    let t : AlignSlices = record { workspace = aligned .0; maxRt = aligned .1 .0; slope = aligned .1 .1 .0; intercept = aligned .1 .1 .1 .0; aligned = aligned .1 .1 .1 .1 .0 } in
+    let a = align .last .1 .1 .1 .1 .1 .1 .1 in
+    let k = align .kept .1 .1 .1 .1 .1 .1 .1 in
+    let t : AlignSlices = record {
+      workspace = a .0;
+      records = record { maxRt = a .1 .0; slope = a .1 .1 .0; intercept = a .1 .1 .1 .0 };
+      aligned = a .1 .1 .1 .1 .0;
+    } in
     let retention = x .predict in
     let r = retention .last .1 .1 .1 .1 .1 .1 .1 .1 in
+    let t₁ : PredictSlices = record {
+      workspace = r .0;
+      outputs = record { coefficients = r .1 .0; predicted = r .1 .1 .0; error = r .1 .1 .1 .0 };
+    } in
     let mobility = y .predict2 in
     let m = mobility .last .1 .1 .1 .1 .1 .1 .1 .1 in
+    let t₂ : PredictSlices = record {
+      workspace = m .0;
+      outputs = record { coefficients = m .1 .0; predicted = m .1 .1 .0; error = m .1 .1 .1 .0 };
+    } in
     let f =
-    run-filled (input s) (held s) (has-passed s) t (align .result) (align .ensures) (align .kept .1 .1 .1 .1 .1 .1 .1 .0) (align .kept .1 .1 .1 .1 .1 .1 .1 .1 .1 .1 .1 .0)
-    (record { workspace = r .0; beta = r .1 .0; predicted = r .1 .1 .0; error = r .1 .1 .1 .0 }) (retention .result) (retention .ensures)
-    (retention .kept .1 .1 .1 .1 .1 .1 .1 .1 .0 ∙ align .kept .1 .1 .1 .1 .1 .1 .1 .0)
-    (record { workspace = m .0; beta = m .1 .0; predicted = m .1 .1 .0; error = m .1 .1 .1 .0 }) (mobility .result) (mobility .ensures) in
+    run-filled (input s) (held s) (has-passed s) t (align .result) (align .ensures) (k .0) (k .1 .1 .1 .1 .0)
+    t₁ (retention .result) (retention .ensures) (retention .kept .1 .1 .1 .1 .1 .1 .1 .1 .0 ∙ k .0)
+    t₂ (mobility .result) (mobility .ensures) in
     rw (c .before .outcome-of .ensures, c .outcome-of2 .ensures) f
 
 pub run-accepted-spec : {M : Type 1} → statement M

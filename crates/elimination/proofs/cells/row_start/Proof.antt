@@ -3,6 +3,8 @@ use Prim.Native.Nat.{_*_, _≤_}
 use native.Mathlib.Nat.{mul-le-mul}
 use native.Mathlib.Omega.{arith}
 use borrow.Author.Needs.{needs}
+use Rattle.status.specs.Limits.{maxOrder}
+use Rattle.elimination.specs.Rows.{maxWidth}
 use Rattle.elimination.proofs.cells.row_start.Statement.{statement}
 use Rattle.elimination.proofs.cells.row_start.Tie as tie
 
@@ -13,10 +15,10 @@ cast-result-2 : tie.Need-cast-result-2
 cast-result-2 c = search needs
 
 mul-result : tie.Need-mul-result
-mul-result c = let l : c .args .row * c .args .w ≤ 100 * 108 = mul-le-mul (c .pre .0) (c .pre .1) in omega arith
+mul-result c = let l : c .args .row * c .args .w ≤ maxOrder * maxWidth = mul-le-mul (c .pre .0) (c .pre .1) in omega arith
 
 cast-result-3 : tie.Need-cast-result-3
-cast-result-3 c = let l : c .args .row * c .args .w ≤ 100 * 108 = mul-le-mul (c .pre .0) (c .pre .1) in omega arith
+cast-result-3 c = let l : c .args .row * c .args .w ≤ maxOrder * maxWidth = mul-le-mul (c .pre .0) (c .pre .1) in omega arith
 
 returns : tie.Need-returns
 returns c = search needs

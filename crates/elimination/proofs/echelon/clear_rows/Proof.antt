@@ -1,4 +1,5 @@
--- `elimination::echelon::clear_rows` meets its contract. The loop's invariant: column k is cleared in the first i rows (`RowsMade`).
+-- `elimination::echelon::clear_rows` meets its contract. The loop's invariant: column k is cleared in the first i
+-- rows (`RowsMade`).
 use mathlib.Core.Path.{refl, sym, _∙_}
 use Prim.Native.Nat.{_-_}
 use native.Mathlib.Nat.{zero-mul}

@@ -1,5 +1,5 @@
--- `elimination::echelon::echelon` meets its contract. The loop's invariant: what is left of the columns gives what all of them give; there are at most k
--- pivot rows above.
+-- `elimination::echelon::echelon` meets its contract. The loop's invariant: what is left of the columns gives what
+-- all of them give; there are at most k pivot rows above.
 use mathlib.Core.Path.{_≡_, refl, sym, ap, _∙_}
 use mathlib.Core.List.{List, []}
 use mathlib.Core.Bool.{true, false}
@@ -14,7 +14,7 @@ use Rattle.matrix.specs.Rows.{rowsOf, swapped}
 use Rattle.float.specs.Number.{zero64}
 use Rattle.matrix.proofs.Laws.{length-rowsOf, getD-rowsOf}
 use Rattle.elimination.specs.Rows.{rowOf}
-use Rattle.elimination.specs.Elimination.{cell, pivotRow, clearBelow, eliminated, echelonFrom, echelon}
+use Rattle.elimination.specs.Elimination.{cell, pivotRow, clearBelow, columnEliminated, echelonFrom, echelon}
 use Rattle.elimination.proofs.Elimination.{pivot-within, column-passed, column-cleared}
 use Rattle.elimination.proofs.Shape.{inside, shape-kept}
 use borrow.Author.Needs.{needs}
@@ -41,7 +41,7 @@ module _ (n w h k : ℕ) where
 
     found : (others : List Float) → eq (getD cells (a + k) nan) zero64 ≡ false → rowsOf w n others ≡ clearBelow h k (swapped h p (rowsOf w n cells))
         → echelonFrom (n - (k + 1)) (k + 1) (h + 1) (rowsOf w n others) ≡ echelonFrom (n - k) k h (rowsOf w n cells)
-    unfolding eliminated
+    unfolding columnEliminated
     found others e r = rw (left, r, is, add-one k, add-one h) (sym (column-cleared (n - suc k) k h (rowsOf w n cells) (rw chosen at e)))
 
 abbrev Inv-loop : tie.InvT-loop
@@ -113,8 +113,8 @@ loop-again c =
           ∙ l .loop .inv .3,
     )
 
-eliminate-requires : tie.Need-eliminate-requires Inv-loop μ-loop
-eliminate-requires c κs =
+eliminate-column-requires : tie.Need-eliminate-column-requires Inv-loop μ-loop
+eliminate-column-requires c κs =
     let p = c .before .before .before .before in
     let l = c .before .before .before .before .before .before .before in
     let s = l .before .before in
@@ -137,8 +137,8 @@ loop-again-2 c =
     let b = c .before .before in (
       omega arith,
       omega arith,
-      b .eliminate .kept .0 ∙ l .loop .inv .2,
-      found (s .args .n) (s .args .w) (l .loop .h) (l .loop .k) (c .before .before .before .before .before .before .before .pivot .result) (c .before .before .before .before .before .before .row-start .result) (l .loop .cells) (c .before .before .before .before .before .before .before .before .before .loop-test .taken) (omega arith) (s .pre .left) (c .before .before .before .before .before .before .before .pivot .ensures) (c .before .before .before .before .before .before .row-start .ensures) (b .eliminate .last .0) (c .before .before .before .before .if1 .left) (b .eliminate .ensures)
+      b .eliminate-column .kept .0 ∙ l .loop .inv .2,
+      found (s .args .n) (s .args .w) (l .loop .h) (l .loop .k) (c .before .before .before .before .before .before .before .pivot .result) (c .before .before .before .before .before .before .row-start .result) (l .loop .cells) (c .before .before .before .before .before .before .before .before .before .loop-test .taken) (omega arith) (s .pre .left) (c .before .before .before .before .before .before .before .pivot .ensures) (c .before .before .before .before .before .before .row-start .ensures) (b .eliminate-column .last .0) (c .before .before .before .before .if1 .left) (b .eliminate-column .ensures)
           ∙ l .loop .inv .3,
     )
 
@@ -168,7 +168,7 @@ echelon-spec =
     add-k
     loop-less
     loop-again
-    eliminate-requires
+    eliminate-column-requires
     add-h
     add-k-2
     loop-less-2

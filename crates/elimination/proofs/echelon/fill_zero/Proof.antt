@@ -1,5 +1,5 @@
--- `elimination::echelon::fill_zero` meets its contract. The loop's invariant: the ridge is on the diagonal of the first i rows (`made i`), and row i starts
--- at `at`.
+-- `elimination::echelon::fill_zero` meets its contract. The loop's invariant: the ridge is on the diagonal of the
+-- first i rows (`made i`), and row i starts at `at`.
 use mathlib.Core.Path.{_≡_, refl, sym, ap, _∙_}
 use mathlib.Core.List.{List, []}
 use Prim.Native.Nat.{ℕ, suc, _+_, _*_, _≤_, _<_, _-_}

@@ -1,5 +1,5 @@
--- `elimination::echelon::pivot` meets its contract. The loop's invariant: what the search finds from row i on, with the best so far, is what it finds in all;
--- row i starts at `at`.
+-- `elimination::echelon::pivot` meets its contract. The loop's invariant: what the search finds from row i on, with
+-- the best so far, is what it finds in all; row i starts at `at`.
 use mathlib.Core.Path.{_≡_, refl, sym, ap, _∙_}
 use mathlib.Core.List.{List, [], map}
 use Prim.Native.Nat.{ℕ, suc, _+_, _*_, _≤_, _<_, _-_}

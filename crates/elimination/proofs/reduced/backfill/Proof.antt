@@ -1,4 +1,5 @@
--- `elimination::reduced::backfill` meets its contract. The loop's invariant: what is left of the rows, from row i - 1 up, gives what all of them give.
+-- `elimination::reduced::backfill` meets its contract. The loop's invariant: what is left of the rows, from row i - 1
+-- up, gives what all of them give.
 use mathlib.Core.Path.{_≡_, refl, sym, ap, _∙_}
 use mathlib.Core.List.{List}
 use Prim.Native.Nat.{ℕ, suc, _≤_, _<_, _-_}

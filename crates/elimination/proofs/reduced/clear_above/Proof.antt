@@ -13,7 +13,7 @@ use borrow.Author.Tests.{lt-ltb, le-ltb}
 use Rattle.matrix.specs.Rows.{rowsOf}
 use Rattle.matrix.proofs.Laws.{rowsOf-take, take-rowsOf}
 use Rattle.elimination.specs.Rows.{rowOf}
-use Rattle.elimination.specs.Elimination.{zeros, leading, lessMultiple, clearAbove}
+use Rattle.elimination.specs.Elimination.{leadingZeros, leading, lessMultiple, clearAbove}
 use Rattle.elimination.proofs.Elimination.{if-true, if-false}
 use Rattle.elimination.proofs.Rows.{rows-above}
 use Rattle.elimination.proofs.Shape.{inside}
@@ -22,9 +22,9 @@ use Rattle.elimination.proofs.reduced.clear_above.Statement.{statement}
 use Rattle.elimination.proofs.reduced.clear_above.Tie as tie
 
 -- row is a copy of row i, j the place of its first nonzero left cell, and row i starts at a
-module _ (n w i j a : ℕ) (cells row : List Float) (l : n ≤ w) (here : take w row ≡ rowOf (rowsOf w n cells) i) (is : j ≡ zeros (take n row)) where
+module _ (n w i j a : ℕ) (cells row : List Float) (l : n ≤ w) (here : take w row ≡ rowOf (rowsOf w n cells) i) (is : j ≡ leadingZeros (take n row)) where
   place : j ≡ leading n (rowOf (rowsOf w n cells) i)
-  place = is ∙ ap zeros (sym (take-take n w row l) ∙ ap (take n) here)
+  place = is ∙ ap leadingZeros (sym (take-take n w row l) ∙ ap (take n) here)
 
   put-above : (part : List Float) → i < n → a ≡ i * w → length (take w row) ≡ w → j < n → length part ≡ a
       → rowsOf (length (take w row)) i part ≡ map (lessMultiple j (take w row)) (rowsOf (length (take w row)) i (take a cells))

@@ -1,4 +1,5 @@
--- `elimination::reduced::row_solved` meets its contract. The loop's invariant: what is left of the row gives what the row gives.
+-- `elimination::reduced::row_solved` meets its contract. The loop's invariant: what is left of the row gives what the
+-- row gives.
 use mathlib.Core.Path.{_≡_, refl, sym, ap, _∙_}
 use mathlib.Core.List.{List, []}
 use Prim.Native.Nat.{ℕ, suc, _+_, _≤_, _<_, _-_}

@@ -1,4 +1,5 @@
--- `elimination::reduced::subtract_multiples` meets its contract. The loop's invariant: column j is cleared in the first i rows (`RowsMade`).
+-- `elimination::reduced::subtract_multiples` meets its contract. The loop's invariant: column j is cleared in the
+-- first i rows (`RowsMade`).
 use mathlib.Core.Path.{refl, sym, _∙_}
 use Prim.Native.Nat.{_-_}
 use native.Mathlib.Nat.{zero-mul}

@@ -1,4 +1,5 @@
--- `elimination::row::clear_column` meets its contract: the cells up to k are the front of the new row, and the part that was lent is the rest of it.
+-- `elimination::row::clear_column` meets its contract: the cells up to k are the front of the new row, and the part
+-- that was lent is the rest of it.
 use mathlib.Core.Path.{_≡_, refl, sym, ap, _∙_}
 use mathlib.Core.List.{List, [], _∷_, _++_}
 use Prim.Native.Nat.{ℕ, suc, _+_, _-_, _<_}

@@ -1,4 +1,5 @@
--- `elimination::row::divide_row` meets its contract: the cells from the first nonzero one on are the part that was lent.
+-- `elimination::row::divide_row` meets its contract: the cells from the first nonzero one on are the part that was
+-- lent.
 use mathlib.Core.Path.{_≡_, refl, sym, ap, _∙_}
 use mathlib.Core.List.{List, _++_, map}
 use Prim.Native.Nat.{ℕ, _-_, _<_, _≤_}
@@ -9,7 +10,7 @@ use lib.Ieee.{Float}
 use denote.Ref.{now}
 use borrow.Author.Tests.{lt-ltb, le-ltb}
 use borrow.Rule.Slice.PartMut.{putMid}
-use Rattle.elimination.specs.Elimination.{cell, dividedBy, zeros, leading, divided}
+use Rattle.elimination.specs.Elimination.{cell, dividedBy, leadingZeros, leading, divided}
 use Rattle.elimination.proofs.Elimination.{if-true, if-false}
 use Rattle.elimination.proofs.Parts.{rest, put-rest}
 use borrow.Author.Needs.{needs}

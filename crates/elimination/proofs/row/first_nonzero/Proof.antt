@@ -1,5 +1,5 @@
--- `elimination::row::first_nonzero` meets its contract. The loop's invariant: the j cells passed are zeros, so that j and the zeros of the rest are those
--- of the row.
+-- `elimination::row::first_nonzero` meets its contract. The loop's invariant: the j cells passed are leadingZeros, so
+-- that j and the leadingZeros of the rest are those of the row.
 use mathlib.Core.Path.{_≡_, ap}
 use mathlib.Core.List.{List, []}
 use Prim.Native.Nat.{ℕ, suc, _+_, _≤_, _-_}
@@ -9,14 +9,14 @@ use native.Mathlib.Numerals.{add-one}
 use lib.ListN.{length, drop, drop-of-length-le}
 use lib.Ieee.{Float, ofBits}
 use denote.Ref.{now}
-use Rattle.elimination.specs.Elimination.{zeros}
+use Rattle.elimination.specs.Elimination.{leadingZeros}
 use Rattle.elimination.proofs.Elimination.{zeros-more, zeros-end}
 use borrow.Author.Needs.{needs}
 use Rattle.elimination.proofs.row.first_nonzero.Statement.{statement}
 use Rattle.elimination.proofs.row.first_nonzero.Tie as tie
 
 abbrev Inv-loop : tie.InvT-loop
-Inv-loop row j₀ j = (j ≤ length row) × (j + zeros (drop j row) ≡ zeros row)
+Inv-loop row j₀ j = (j ≤ length row) × (j + leadingZeros (drop j row) ≡ leadingZeros row)
 
 abbrev μ-loop : tie.MeasureT-loop
 μ-loop row j₀ j = length row - j
@@ -40,23 +40,23 @@ loop-again : tie.Need-loop-again Inv-loop μ-loop
 loop-again c =
     let l = c .before .before .before in
     let row : List Float = now (l .before .args .row) in
-    let e : zeros (drop (l .loop .j) row) ≡ suc (zeros (drop (suc (l .loop .j)) row)) = zeros-more row _ (omega arith) (c .if1 .taken) in
+    let e : leadingZeros (drop (l .loop .j) row) ≡ suc (leadingZeros (drop (suc (l .loop .j)) row)) = zeros-more row _ (omega arith) (c .if1 .taken) in
     (omega arith, rw add-one (omega (arith, e, l .loop .inv .1)))
 
 returns : tie.Need-returns Inv-loop μ-loop
 returns c =
     let l = c .before .before .before in
     let row : List Float = now (l .before .args .row) in
-    let e : zeros (drop (l .loop .j) row) ≡ 0 = zeros-end row _ (omega arith) (c .if1 .left) in
+    let e : leadingZeros (drop (l .loop .j) row) ≡ 0 = zeros-end row _ (omega arith) (c .if1 .left) in
     omega (arith, e, l .loop .inv .1)
 
 returns-2 : tie.Need-returns-2 Inv-loop μ-loop
-unfolding zeros
+unfolding leadingZeros
 returns-2 c =
     let l = c .before in
     let row : List Float = now (l .before .args .row) in
     let all : length row ≤ l .loop .j = omega arith in
-    let e : zeros (drop (l .loop .j) row) ≡ zeros [] = ap zeros (drop-of-length-le row all) in
+    let e : leadingZeros (drop (l .loop .j) row) ≡ leadingZeros [] = ap leadingZeros (drop-of-length-le row all) in
     omega (arith, e, l .loop .inv .1)
 
 pub first-nonzero-spec : {M : Type 1} → statement M

@@ -1,5 +1,5 @@
--- `elimination::system::augment` meets its contract. The loop's invariant: the first i rows are joined (`made i`), and row i of the cells and of the two
--- sides starts at `at`, `l` and `r`.
+-- `elimination::system::augment` meets its contract. The loop's invariant: the first i rows are joined (`made i`),
+-- and row i of the cells and of the two sides starts at `at`, `l` and `r`.
 use mathlib.Core.Path.{_≡_, refl, sym, ap, _∙_}
 use mathlib.Core.List.{List, [], _++_}
 use Prim.Native.Nat.{ℕ, suc, _+_, _*_, _≤_, _<_, _-_}

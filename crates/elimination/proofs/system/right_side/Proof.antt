@@ -1,5 +1,5 @@
--- `elimination::system::right_side` meets its contract. The loop's invariant: the first i rows of the output are the right side's (`made i`), and row i of the
--- system and of the output starts at `at` and `s`.
+-- `elimination::system::right_side` meets its contract. The loop's invariant: the first i rows of the output are the
+-- right side's (`made i`), and row i of the system and of the output starts at `at` and `s`.
 use mathlib.Core.Path.{_≡_, refl, sym, ap, _∙_}
 use mathlib.Core.List.{List, [], _++_, map}
 use Prim.Native.Nat.{ℕ, suc, _+_, _*_, _≤_, _<_, _-_}

@@ -1,5 +1,5 @@
--- `embedding::mobility_model::class_count` meets its contract. The loop's invariant: the sum so far, with the counts at the numbers that are
--- left, gives the whole.
+-- `embedding::mobility_model::class_count` meets its contract. The loop's invariant: the sum so far, with the counts at
+-- the numbers that are left, gives the whole.
 use mathlib.Core.Path.{_≡_, refl, sym, ap, _∙_}
 use mathlib.Core.List.{List, map}
 use Prim.Native.Nat.{ℕ, _≤_, _-_}

@@ -1,4 +1,5 @@
--- `embedding::mobility_model::put_classes` meets its contract: a run of stores from the first cell on, one for each class of the table.
+-- `embedding::mobility_model::put_classes` meets its contract: a run of stores from the first cell on, one for each
+-- class of the table.
 use native.Mathlib.Omega.{arith}
 use lib.Seq.{sets-eq}
 use lib.ListN.{length-set}

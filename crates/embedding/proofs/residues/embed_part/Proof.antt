@@ -1,5 +1,5 @@
--- `embedding::residues::embed_part` meets its contract. The loop's invariant: the first 22 cells are the tally of the first i letters' columns, and the
--- others as they were.
+-- `embedding::residues::embed_part` meets its contract. The loop's invariant: the first 22 cells are the tally of the
+-- first i letters' columns, and the others as they were.
 use mathlib.Core.Path.{_≡_, refl, ap₂, _∙_}
 use mathlib.Core.List.{List, _++_, map}
 use Prim.Native.Nat.{ℕ, _≤_, _-_, _<_}

@@ -1,4 +1,5 @@
--- `embedding::residues::put_counts` meets its contract. The loop's invariant: the first k cells are the first k counts, the others as they were.
+-- `embedding::residues::put_counts` meets its contract. The loop's invariant: the first k cells are the first k counts,
+-- the others as they were.
 use mathlib.Core.Path.{_≡_, refl, _∙_}
 use mathlib.Core.List.{_++_}
 use Prim.Native.Nat.{_≤_, _-_}

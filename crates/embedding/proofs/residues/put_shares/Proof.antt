@@ -1,5 +1,5 @@
--- `embedding::residues::put_shares` meets its contract. The loop's invariant: the first k cells are the shares of the first k counts, the others as they
--- were.
+-- `embedding::residues::put_shares` meets its contract. The loop's invariant: the first k cells are the shares of the
+-- first k counts, the others as they were.
 use mathlib.Core.Path.{_≡_, refl, _∙_}
 use mathlib.Core.List.{List, _++_, map}
 use Prim.Native.Nat.{_≤_, _-_}

@@ -1,7 +1,17 @@
 -- `float::convert::ceil_to_u32` meets its contract: the whole part t, and one more where t is below x.
 use mathlib.Core.Path.{_≡_, refl, sym, ap, _∙_, subst}
 use Prim.Native.Nat.{ℕ, _+_, _-_, _*_, _/_, _%_, _^_, _≤_, _<_, min}
-use native.Mathlib.Nat.{mul-one, mul-right-comm, mod-lt, div-add-mod', suc-mul, le-of-mul-le-mul-right, div-lt-iff-lt-mul, le-div-iff-mul-le, lt-of-mul-lt-mul-right}
+use native.Mathlib.Nat.{
+  mul-one,
+  mul-right-comm,
+  mod-lt,
+  div-add-mod',
+  suc-mul,
+  le-of-mul-le-mul-right,
+  div-lt-iff-lt-mul,
+  le-div-iff-mul-le,
+  lt-of-mul-lt-mul-right,
+}
 use native.Mathlib.Numerals.{add-one}
 use native.Mathlib.Omega.{arith}
 use mathlib.Core.Bool.{Bool, true, false, not, true≢false, false≢true}

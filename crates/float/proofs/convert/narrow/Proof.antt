@@ -1,4 +1,5 @@
--- `float::convert::narrow` meets its contract: off a NaN, x is its bits' three fields, and the bits of `narrowed x` are what `narrow_fields` says.
+-- `float::convert::narrow` meets its contract: off a NaN, x is its bits' three fields, and the bits of `narrowed x`
+-- are what `narrow_fields` says.
 use mathlib.Core.Path.{_≡_, refl, sym, ap, _∙_, subst}
 use mathlib.Core.Bool.{Bool, true, false, not}
 use Prim.Native.Nat.{ℕ, _+_, _/_, _%_, _≤_}

@@ -1,4 +1,5 @@
--- `float::convert::shift_right_nearest` meets its contract: the mask is the remainder by 2 ^ h, and the two tests compare its double with 2 ^ h.
+-- `float::convert::shift_right_nearest` meets its contract: the mask is the remainder by 2 ^ h, and the two tests
+-- compare its double with 2 ^ h.
 use mathlib.Core.Path.{_≡_, sym, ap, _∙_}
 use Prim.Native.Nat.{ℕ, _+_, _-_, _*_, _/_, _%_, _^_, _≤_, _<_}
 use native.Mathlib.Nat.{one-mul, mod-eq-of-lt, lt-of-lt-of-le, le-trans, le-of-eq, div-lt-iff-lt-mul, mod-lt}

@@ -1,5 +1,5 @@
--- `float::hex::read_hex` meets its contract. The loop's invariant: v and the digits that are left give the value of them all, and
--- those that are left are digits exactly if all are.
+-- `float::hex::read_hex` meets its contract. The loop's invariant: v and the digits that are left give the value of
+-- them all, and those that are left are digits exactly if all are.
 use mathlib.Core.Path.{_≡_, refl, sym, ap, _∙_}
 use mathlib.Core.Bool.{Bool, true, false, _&&_}
 use mathlib.Core.List.{List, []}

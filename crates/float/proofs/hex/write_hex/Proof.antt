@@ -1,4 +1,5 @@
--- `float::hex::write_hex` meets its contract. The loop's invariant: from i on stand v's last digits, and rest is v without them.
+-- `float::hex::write_hex` meets its contract. The loop's invariant: from i on stand v's last digits, and rest is v
+-- without them.
 use mathlib.Core.Path.{_≡_, refl, sym, ap, _∙_}
 use Prim.Native.Nat.{ℕ, suc, _-_, _/_, _%_, _^_, _≤_}
 use native.Mathlib.Nat.{div-one}

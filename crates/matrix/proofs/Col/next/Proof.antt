@@ -1,4 +1,5 @@
--- `matrix::Col::next` meets its contract: a cell that was found lies in a row below `rows`, so the next row's number fits.
+-- `matrix::Col::next` meets its contract: a cell that was found lies in a row below `rows`, so the next row's number
+-- fits.
 use mathlib.Core.Path.{_≡_, refl, sym, ap, _∙_}
 use mathlib.Core.Bool.{Bool, true, false, _&&_, cond}
 use mathlib.Core.List.{List}

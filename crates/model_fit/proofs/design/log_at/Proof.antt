@@ -7,6 +7,9 @@ use borrow.Author.Needs.{needs}
 use Rattle.model_fit.proofs.design.log_at.Statement.{statement}
 use Rattle.model_fit.proofs.design.log_at.Tie as tie
 
+cast-i : tie.Need-cast-i
+cast-i c = search needs
+
 mul-result : tie.Need-mul-result
 mul-result c = search needs
 
@@ -18,7 +21,7 @@ returns c = search needs
 
 returns-2 : tie.Need-returns-2
 unfolding div ofBits
-returns-2 c = sym (List·getD-eq-default (now (c .before .args .logs)) nan (c .if1 .left))
+returns-2 c = sym (List·getD-eq-default (now (c .before .before .args .logs)) nan (c .if1 .left))
 
 pub log-at-spec : {M : Type 1} → statement M
-log-at-spec = tie.close (tie.spec mul-result shared-slice-read-result returns returns-2)
+log-at-spec = tie.close (tie.spec cast-i mul-result shared-slice-read-result returns returns-2)

@@ -1,5 +1,5 @@
--- `model_fit::training::accumulate` meets its contract. The loop's invariant: the equations, with a row that may be held back, and the sums are those of the
--- training rows among the first i.
+-- `model_fit::training::accumulate` meets its contract. The loop's invariant: the workspace, with a row that may be
+-- held back, and the sums are those of the training rows among the first i.
 use mathlib.Core.Path.{_≡_, refl, sym, ap, _∙_, subst}
 use mathlib.Core.Bool.{Bool, true, false, not}
 use mathlib.Core.List.{List, [], _∷_, _++_}
@@ -9,36 +9,41 @@ use native.Mathlib.Numerals.{add-one}
 use denote.Ref.{now}
 use lib.IntN.{pos}
 use lib.Ieee.{Float, nan}
-use lib.ListN.{length, getD, length-replicate}
+use lib.ListN.{length, getD}
 use borrow.Author.Needs.{needs}
 use borrow.Author.Tests.{not-true, not-false}
-use Rattle.matrix.specs.Rows.{flat}
+use Rattle.status.specs.Limits.{maxOrder, maxLetters}
 use Rattle.feature.specs.Feature.{trains, kept}
-use Rattle.embedding.specs.Design.{orderOf}
+use Rattle.peptide.specs.Table.{Table}
+use Rattle.embedding.specs.Design.{orderOf, design}
 use Rattle.embedding.specs.declared.Model.{Model}
 use Rattle.regression.specs.Regression.{Sample, normal, sumsOf, plusTarget}
+use Rattle.regression.specs.Workspace.{Workspace, holding}
 use Rattle.regression.specs.declared.Sums.{Sums}
-use Rattle.regression.proofs.Laws.{normal-nil, sums-nil, sums-snoc}
-use Rattle.model_fit.specs.Input.{Input, inputOf, queryOf}
-use Rattle.model_fit.specs.Samples.{sampleOf}
-use Rattle.model_fit.specs.Shared.{Checked, Summed}
-use Rattle.model_fit.proofs.Rows.{order-max, seen, sampleAt, seen-trains, seen-outside, seen-all, seen-few}
+use Rattle.regression.proofs.Laws.{sums-nil, sums-snoc}
+use Rattle.model_fit.specs.Input.{Input, inputOf, inputAt}
+use Rattle.model_fit.specs.Samples.{sampleFrom}
+use Rattle.model_fit.specs.Shared.{Listed, Checked, Summed}
+use Rattle.model_fit.proofs.Rows.{order-max, looked-short, looked-up}
+use Rattle.model_fit.proofs.Rows.{seen, sampleAt, seen-trains, seen-outside, seen-all, seen-few}
 use Rattle.model_fit.proofs.Status.{listed}
 use Rattle.model_fit.proofs.training.accumulate.Statement.{statement}
 use Rattle.model_fit.proofs.training.accumulate.Tie as tie
 
 abbrev Inv-loop : tie.InvT-loop
-Inv-loop model peptide label q charge observed letters offsets masses logs equations₀ first₀ second₀ held₀ sums₀ i₀ i-end equations first second held sums i =
+Inv-loop model peptide label q charge observed letters offsets masses logs
+    workspace₀ first₀ second₀ held₀ sums₀ i₀ i-end workspace first second held sums i =
     let input : Input = inputOf peptide label q charge observed letters offsets masses logs in
     (i ≤ length peptide)
-    × Summed (orderOf model) held first equations (seen model input i)
+    × Summed (orderOf model) held first workspace (seen model input i)
     × (sums ≡ sumsOf (seen model input i))
-    × (length equations ≡ length equations₀)
-    × (length first ≡ 101)
-    × (length second ≡ 101)
+    × (length workspace ≡ length workspace₀)
+    × (length first ≡ maxOrder + 1)
+    × (length second ≡ maxOrder + 1)
 
 abbrev μ-loop : tie.MeasureT-loop
-μ-loop model peptide label q charge observed letters offsets masses logs equations₀ first₀ second₀ held₀ sums₀ i₀ i-end equations first second held sums i =
+μ-loop model peptide label q charge observed letters offsets masses logs
+    workspace₀ first₀ second₀ held₀ sums₀ i₀ i-end workspace first second held sums i =
     length peptide - i
 
 -- where the function begins, and what it was passed
@@ -48,31 +53,83 @@ start at = at .before .before .before .before .before .before .before .before .b
 abbrev passed : tie.Start Inv-loop μ-loop → Input
 passed s =
     let a = s .args in
-    inputOf (now (a .peptide)) (now (a .label)) (now (a .q)) (now (a .charge)) (now (a .observed)) (now (a .letters)) (now (a .offsets)) (now (a .masses)) (now (a .logs))
+    inputAt (a .peptide) (a .label) (a .q) (a .charge) (a .observed) (a .letters) (a .offsets) (a .masses) (a .logs)
 
--- the start of a turn at a training row
-abbrev turn : tie.After-add-sample-arg Inv-loop μ-loop → tie.In-loop Inv-loop μ-loop
-turn d = d .before .before .before .before .before .before .before .before .before
+-- the workspace keeps its length
+still : (s : tie.Start Inv-loop μ-loop) (cells : List Float) → length cells ≡ length (now (s .args .workspace))
+    → Workspace (orderOf (s .args .model)) cells
+still s cells e = record { order = s .pre .1 .0 .order; count = e ∙ s .pre .1 .0 .count }
 
 -- a turn's row is one of the rows
 inside : (t : tie.In-loop Inv-loop μ-loop) → t .before .loop .i < length (now (start (t .before) .args .peptide))
 inside t = omega (arith, t .loop-test .taken)
 
+-- its peptide is in the table
+has : (t : tie.In-loop Inv-loop μ-loop)
+    → let i = passed (start (t .before)) in Listed (i .table) (getD (i .peptides) (t .before .loop .i) 0)
+has t =
+    let s = start (t .before) in
+    listed (passed s .table) (passed s .peptides) (t .before .loop .i) (s .pre .0 .numbered) (inside t)
+
+-- the place of the turn at which a training row's peptide is looked up
+module _ (m : tie.After-mass-at Inv-loop μ-loop) where
+  abbrev charged : tie.After-charge-at Inv-loop μ-loop
+  charged = m .before .before .before .before
+
+  abbrev test : tie.Else1 Inv-loop μ-loop
+  test = charged .before .before .before
+
+  abbrev turn : tie.In-loop Inv-loop μ-loop
+  turn = test .before .before
+
+  abbrev s : tie.Start Inv-loop μ-loop
+  s = start (turn .before)
+
+  abbrev k : ℕ
+  k = turn .before .loop .i
+
+  abbrev letters : List ℕ
+  letters = now (m .before .before .sequence .result)
+
+  abbrev table : Table
+  table = passed s .table
+
+  short : length letters ≤ maxLetters
+  short = looked-short table _ letters (m .before .before .sequence .ensures) (has turn)
+
+  sample-is : sampleFrom
+      (design (s .args .model) letters (m .before .log-at .result) (m .mass-at .result) (charged .charge-at .result))
+      (charged .before .widen .result)
+      ≡ sampleAt (s .args .model) (passed s) k
+  sample-is =
+      let row =
+      looked-up table _ letters (m .before .before .sequence .ensures) (s .args .model) _ _ _ _
+      (m .before .log-at .ensures) (m .mass-at .ensures) (charged .charge-at .ensures) in
+      let y = charged .before .widen .ensures in
+      λ j. sampleFrom (row j) (y j)
+
+  trained : let i = passed s in trains (getD (i .labels) k (pos 0)) (getD (i .qs) k nan) ≡ true
+  trained = sym (test .before .trains-at .ensures) ∙ not-false _ (test .if1 .left)
+
+-- the place of a looked-up peptide, as the sample that is added sees it
+abbrev looked : tie.After-add-sample-arg Inv-loop μ-loop → tie.After-mass-at Inv-loop μ-loop
+looked d = d .before .before .before
+
 -- one training row more
-one-more : (model : Model) (i : Input) (k z : ℕ) (y : Float) (held : Bool) (row equations : List Float) (before after : Sums) → Checked i → k < length (i .peptides)
+one-more : (model : Model) (i : Input) (k : ℕ) (x : Sample) (held : Bool) (row cells : List Float) (before after : Sums)
+    → Checked i
+    → k < length (i .peptides)
     → trains (getD (i .labels) k (pos 0)) (getD (i .qs) k nan) ≡ true
-    → z ≡ getD (i .charges) k 0
-    → y ≡ getD (i .observed) k nan
-    → Summed (orderOf model) held row equations (seen model i k ++ sampleOf model (i .table) (queryOf (getD (i .peptides) k 0) z) y ∷ [])
+    → x ≡ sampleAt model i k
+    → Summed (orderOf model) held row cells (seen model i k ++ x ∷ [])
     → before ≡ sumsOf (seen model i k)
-    → after ≡ plusTarget before y
-    → Summed (orderOf model) held row equations (seen model i (k + 1)) × (after ≡ sumsOf (seen model i (k + 1)))
-one-more model i k z y held row equations before after checked h t ez ey e eb ea =
+    → after ≡ plusTarget before (x .y)
+    → Summed (orderOf model) held row cells (seen model i (k + 1)) × (after ≡ sumsOf (seen model i (k + 1)))
+one-more model i k x held row cells before after checked h t ex e eb ea =
     let ss : List Sample = seen model i k in
-    let s : sampleOf model (i .table) (queryOf (getD (i .peptides) k 0) z) y ≡ sampleAt model i k = rw (ez, ey) in
-    let n : seen model i (k + 1) ≡ ss ++ sampleAt model i k ∷ [] = rw (add-one k) (seen-trains model i checked k h t) in (
-      subst (Summed (orderOf model) held row equations) (ap (λ (x : Sample). ss ++ x ∷ []) s ∙ sym n) e,
-      ea ∙ ap (λ (x : Sums). plusTarget x y) eb ∙ ap (plusTarget (sumsOf ss)) ey ∙ sym (sums-snoc ss (sampleAt model i k)) ∙ ap sumsOf (sym n),
+    let n : seen model i (k + 1) ≡ ss ++ x ∷ [] = rw (add-one k, ex) (seen-trains model i checked k h t) in (
+      subst (Summed (orderOf model) held row cells) (sym n) e,
+      ea ∙ ap (λ (v : Sums). plusTarget v (x .y)) eb ∙ sym (sums-snoc ss x) ∙ ap sumsOf (sym n),
     )
 
 zero-requires : tie.Need-zero-requires Inv-loop μ-loop
@@ -82,10 +139,12 @@ loop-holds : tie.Need-loop-holds Inv-loop μ-loop
 unfolding kept
 loop-holds c =
     let s = c .before .before .before .before .before .before .before .before .before .before in
-    (search needs, s .pre .1 ∙ sym (normal-nil _), c .zero .ensures ∙ sym sums-nil, refl, refl, refl)
+    (search needs, s .pre .1 .1, c .zero .ensures ∙ sym sums-nil, refl, refl, refl)
 
 trains-at-requires : tie.Need-trains-at-requires Inv-loop μ-loop
-trains-at-requires c κs = let s = start (c .before) in (omega (arith, s .pre .0 .labels-long), omega (arith, s .pre .0 .qs-long))
+trains-at-requires c κs =
+    let s = start (c .before) in
+    (omega (arith, s .pre .0 .labels-long), omega (arith, s .pre .0 .qs-long))
 
 add-i : tie.Need-add-i Inv-loop μ-loop
 add-i c = search needs
@@ -99,10 +158,18 @@ loop-again c =
     let s = start at in
     let model = s .args .model in
     let i : Input = passed s in
-    let k = at .loop .i in
-    let t : trains (getD (i .labels) k (pos 0)) (getD (i .qs) k nan) ≡ false = sym (c .before .trains-at .ensures) ∙ not-true _ (c .if1 .taken) in
-    let n : seen model i (k + 1) ≡ seen model i k = rw (add-one k) (seen-outside model i (s .pre .0) k (inside (c .before .before)) t) in
-    (omega arith, subst (Summed (orderOf model) (at .loop .held) (at .loop .first) (at .loop .equations)) (sym n) (at .loop .inv .1), at .loop .inv .2 ∙ ap sumsOf (sym n), at .loop .inv .3, at .loop .inv .4, at .loop .inv .5)
+    let l = at .loop in
+    let t : trains (getD (i .labels) (l .i) (pos 0)) (getD (i .qs) (l .i) nan) ≡ false =
+    sym (c .before .trains-at .ensures) ∙ not-true _ (c .if1 .taken) in
+    let n : seen model i (l .i + 1) ≡ seen model i (l .i) =
+    rw (add-one (l .i)) (seen-outside model i (s .pre .0) (l .i) (inside (c .before .before)) t) in (
+      omega arith,
+      subst (Summed (orderOf model) (l .held) (l .first) (l .workspace)) (sym n) (l .inv .1),
+      l .inv .2 ∙ ap sumsOf (sym n),
+      l .inv .3,
+      l .inv .4,
+      l .inv .5,
+    )
 
 mul-widen : tie.Need-mul-widen Inv-loop μ-loop
 mul-widen c = omega (arith, start (c .before .before .before) .pre .0 .observed-long)
@@ -113,64 +180,71 @@ shared-slice-read-widen c = omega (arith, start (c .before .before .before .befo
 widen-requires : tie.Need-widen-requires Inv-loop μ-loop
 widen-requires c κs = search needs
 
-mul-p : tie.Need-mul-p Inv-loop μ-loop
-mul-p c = search needs
-
-shared-slice-read-p : tie.Need-shared-slice-read-p Inv-loop μ-loop
-shared-slice-read-p c = search needs
-
 charge-at-requires : tie.Need-charge-at-requires Inv-loop μ-loop
 charge-at-requires c κs = search needs
 
+mul-number : tie.Need-mul-number Inv-loop μ-loop
+mul-number c = search needs
+
+shared-slice-read-number : tie.Need-shared-slice-read-number Inv-loop μ-loop
+shared-slice-read-number c = search needs
+
+sequence-requires : tie.Need-sequence-requires Inv-loop μ-loop
+sequence-requires c κs = has (c .before .before .before .before .before .before) .has
+
+log-at-requires : tie.Need-log-at-requires Inv-loop μ-loop
+log-at-requires c κs = search needs
+
+mass-at-requires : tie.Need-mass-at-requires Inv-loop μ-loop
+mass-at-requires c κs = has (c .before .before .before .before .before .before .before .before) .weighed
+
 slice-aggregate-add-sample : tie.Need-slice-aggregate-add-sample Inv-loop μ-loop
-slice-aggregate-add-sample c = sym (c .before .before .before .before .before .before .before .before .loop .inv .4)
+slice-aggregate-add-sample c = sym (turn (c .before) .before .loop .inv .4)
 
 slice-aggregate-add-sample-2 : tie.Need-slice-aggregate-add-sample-2 Inv-loop μ-loop
-slice-aggregate-add-sample-2 c = sym (c .before .before .before .before .before .before .before .before .before .loop .inv .5)
+slice-aggregate-add-sample-2 c = sym (turn (c .before .before) .before .loop .inv .5)
 
 add-sample-requires : tie.Need-add-sample-requires Inv-loop μ-loop
 add-sample-requires c κs =
-    let t = turn c in
-    let l = t .before .loop in
-    let s = start (t .before) in
-    let m = order-max (s .args .model) in
-    (listed _ _ _ (s .pre .0 .numbered) (inside t), ((omega (arith, m, l .inv .4), omega (arith, m, l .inv .5)), l .inv .3 ∙ ap length (s .pre .1) ∙ length-replicate _ _))
+    let m = looked c in
+    let l = turn m .before .loop in
+    let d = order-max (s m .args .model) in
+    (short m, ((omega (arith, d, l .inv .4), omega (arith, d, l .inv .5)), still (s m) (l .workspace) (l .inv .3)))
 
 add-requires : tie.Need-add-requires Inv-loop μ-loop
 add-requires c κs =
-    let t = turn (c .before .before .before .before .before) in
-    let l = t .before .loop in
-    let s = start (t .before) in
-    let n : l .sums .n ≡ length (seen (s .args .model) (passed s) (l .i)) = ap (λ (x : Sums). x .n) (l .inv .2) in
-    omega (arith, n, seen-few (s .args .model) (passed s) (s .pre .0) (l .i), inside t, s .pre .0 .rows-max)
+    let m = looked (c .before .before .before .before .before) in
+    let l = turn m .before .loop in
+    let model = s m .args .model in
+    let i = passed (s m) in
+    let n : l .sums .n ≡ length (seen model i (k m)) = ap (λ (x : Sums). x .n) (l .inv .2) in
+    omega (arith, n, seen-few model i (s m .pre .0) (k m), inside (turn m), s m .pre .0 .rows-max)
 
 add-i-2 : tie.Need-add-i-2 Inv-loop μ-loop
 add-i-2 c =
-    let t = turn (c .before .before .before .before .before .before) in
-    omega (arith, inside t, start (t .before) .pre .0 .rows-max)
+    let m = looked (c .before .before .before .before .before .before) in
+    omega (arith, inside (turn m), s m .pre .0 .rows-max)
 
 loop-less-2 : tie.Need-loop-less-2 Inv-loop μ-loop
-loop-less-2 c = omega (arith, inside (turn (c .before .before .before .before .before .before)))
+loop-less-2 c = omega (arith, inside (turn (looked (c .before .before .before .before .before .before))))
 
 loop-again-2 : tie.Need-loop-again-2 Inv-loop μ-loop
 loop-again-2 c =
-    let d = c .before .before .before .before .before .before in
-    let t = turn d in
-    let l = t .before .loop in
-    let s = start (t .before) in
-    let i : Input = passed s in
-    let z = c .before .before .before .before .before .before .before .before .before .charge-at in
-    let y = c .before .before .before .before .before .before .before .before .before .before .before .widen in
-    let added = c .before .before .before .before .before .add-sample in
-    let trained : trains (getD (i .labels) (l .i) (pos 0)) (getD (i .qs) (l .i) nan) ≡ true = sym (c .before .before .before .before .before .before .before .before .before .before .before .before .before .before .trains-at .ensures) ∙ not-false _ (c .before .before .before .before .before .before .before .before .before .before .before .before .before .if1 .left) in
-    let step = one-more (s .args .model) i (l .i) (z .result) (y .result) (not (l .held)) _ _ (l .sums) (c .add .result) (s .pre .0) (inside t) trained
-    (z .ensures) (y .ensures) (added .ensures (seen (s .args .model) i (l .i)) (l .inv .1)) (l .inv .2) (c .add .ensures) in (
-      omega (arith, inside t),
+    let added = c .before .before .before .before .before in
+    let m = looked (added .before) in
+    let l = turn m .before .loop in
+    let model = s m .args .model in
+    let i : Input = passed (s m) in
+    let kept = added .add-sample .kept .1 .1 .1 .1 .1 .1 .1 in
+    let step =
+    one-more model i (k m) _ (not (l .held)) _ _ (l .sums) (c .add .result) (s m .pre .0) (inside (turn m))
+    (trained m) (sample-is m) (added .add-sample .ensures (seen model i (k m)) (l .inv .1)) (l .inv .2) (c .add .ensures) in (
+      omega (arith, inside (turn m)),
       step .0,
       step .1,
-      added .kept .1 .1 .1 .1 .1 .1 .1 .1 .1 .1 .1 .0 ∙ l .inv .3,
-      added .kept .1 .1 .1 .1 .1 .1 .1 .1 .1 .0 ∙ l .inv .4,
-      added .kept .1 .1 .1 .1 .1 .1 .1 .1 .1 .1 .0 ∙ l .inv .5,
+      kept .1 .1 .0 ∙ l .inv .3,
+      kept .0 ∙ l .inv .4,
+      kept .1 .0 ∙ l .inv .5,
     )
 
 slice-aggregate-add-held : tie.Need-slice-aggregate-add-held Inv-loop μ-loop
@@ -181,7 +255,7 @@ add-held-requires c κs =
     let at = c .before .before .before in
     let l = at .loop in
     let s = start at in
-    (omega (arith, order-max (s .args .model), l .inv .4), l .inv .3 ∙ ap length (s .pre .1) ∙ length-replicate _ _)
+    (omega (arith, order-max (s .args .model), l .inv .4), still s (l .workspace) (l .inv .3))
 
 same-length : tie.Need-same-length Inv-loop μ-loop
 same-length c = search needs
@@ -194,7 +268,8 @@ returns c =
     let model = s .args .model in
     let n = seen-all model (passed s) (s .pre .0) (l .i) (omega arith) in
     record {
-      equations = c .before .before .add-held .ensures (seen model (passed s) (l .i)) (l .inv .1) ∙ ap (λ (x : List Sample). flat (normal (orderOf model) x)) n;
+      holds = c .before .before .add-held .ensures (seen model (passed s) (l .i)) (l .inv .1)
+          ∙ ap (λ (x : List Sample). holding (orderOf model) (normal (orderOf model) x)) n;
       sums = l .inv .2 ∙ ap sumsOf n;
     }
 
@@ -213,9 +288,12 @@ accumulate-spec =
     mul-widen
     shared-slice-read-widen
     widen-requires
-    mul-p
-    shared-slice-read-p
     charge-at-requires
+    mul-number
+    shared-slice-read-number
+    sequence-requires
+    log-at-requires
+    mass-at-requires
     slice-aggregate-add-sample
     slice-aggregate-add-sample-2
     add-sample-requires

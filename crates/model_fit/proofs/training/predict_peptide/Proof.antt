@@ -1,4 +1,4 @@
--- `model_fit::training::predict_peptide` meets its contract: the row's first cells are the design row, as `embed_peptide` says.
+-- `model_fit::training::predict_peptide` meets its contract: the row's first cells are the design row, as `embed` says.
 use mathlib.Core.Path.{_≡_, ap, _∙_}
 use mathlib.Core.List.{List}
 use Prim.Native.Nat.{ℕ, _≤_}
@@ -7,20 +7,18 @@ use denote.Ref.{now}
 use lib.Ieee.{Float}
 use lib.ListN.{length, take, length-take}
 use borrow.Author.Needs.{needs}
-use Rattle.embedding.specs.Design.{orderOf}
+use Rattle.embedding.specs.Design.{orderOf, design as rowOf}
 use Rattle.regression.specs.Regression.{dot}
-use Rattle.model_fit.specs.Input.{tableOf, queryOf}
-use Rattle.model_fit.specs.Samples.{designOf}
 use Rattle.model_fit.proofs.Laws.{front-take}
 use Rattle.model_fit.proofs.training.predict_peptide.Statement.{statement}
 use Rattle.model_fit.proofs.training.predict_peptide.Tie as tie
 
 -- where the function begins
 abbrev start : tie.After-order → tie.Start
-start o = o .before .before .before .before .before .before .before
+start o = o .before .before .before .before
 
 -- the row is written: it is as long as it was, and long enough
-module _ (e : tie.After-embed-peptide) where
+module _ (e : tie.After-embed) where
   abbrev o : tie.After-order
   o = e .before .before
 
@@ -31,10 +29,10 @@ module _ (e : tie.After-embed-peptide) where
   d = o .order .result
 
   abbrev row : List Float
-  row = e .embed-peptide .last .1 .1 .1 .1 .1 .1 .1 .0
+  row = e .embed .last .1 .1 .1 .1 .1 .0
 
   long : length row ≡ length (now (s .args .row))
-  long = e .embed-peptide .kept .1 .1 .1 .1 .1 .1 .1 .0
+  long = e .embed .kept .1 .1 .1 .1 .1 .0
 
   small : d ≤ length row
   small = omega (arith, o .order .ensures, s .pre .1, long)
@@ -42,8 +40,8 @@ module _ (e : tie.After-embed-peptide) where
 order-requires : tie.Need-order-requires
 order-requires c κs = search needs
 
-embed-peptide-requires : tie.Need-embed-peptide-requires
-embed-peptide-requires c κs = let s = start (c .before) in (s .pre .0, s .pre .1)
+embed-requires : tie.Need-embed-requires
+embed-requires c κs = let s = start (c .before) in (omega (arith, s .pre .0), s .pre .1)
 
 slice-reshare-prefix-predict : tie.Need-slice-reshare-prefix-predict
 slice-reshare-prefix-predict c = small (c .before .before)
@@ -61,18 +59,21 @@ returns : tie.Need-returns
 returns c =
     let e = c .before .before .before .before in
     let a = s e .args in
-    let table = tableOf (now (a .letters)) (now (a .offsets)) (now (a .masses)) (now (a .logs)) in
-    let design : List Float = designOf (a .model) table (queryOf (a .peptide .0) (a .charge)) in
+    let design : List Float = rowOf (a .model) (now (a .letters)) (a .log) (a .mass) (a .charge) in
     let x : take (d e) (row e) ≡ design =
-    ap (λ (n : ℕ). take n (row e)) (o e .order .ensures) ∙ front-take design _ (row e) (orderOf (a .model)) (e .embed-peptide .ensures) (long e) (s e .pre .1) in
-    record { prediction = c .predict .ensures ∙ ap (λ (r : List Float). dot r (now (a .beta))) x; row = e .embed-peptide .ensures }
+    ap (λ (n : ℕ). take n (row e)) (o e .order .ensures)
+    ∙ front-take design _ (row e) (orderOf (a .model)) (e .embed .ensures) (long e) (s e .pre .1) in
+    record {
+      prediction = c .predict .ensures ∙ ap (λ (r : List Float). dot r (now (a .beta))) x;
+      row = e .embed .ensures;
+    }
 
 pub predict-peptide-spec : {M : Type 1} → statement M
 predict-peptide-spec =
     tie.close
     (tie.spec
     order-requires
-    embed-peptide-requires
+    embed-requires
     slice-reshare-prefix-predict
     slice-aggregate-predict
     predict-requires

@@ -1,5 +1,5 @@
--- `model_fit::training::sum_squares` meets its contract. The loop's invariant: the sum is that of the training rows among the
--- first k.
+-- `model_fit::training::sum_squares` meets its contract. The loop's invariant: the sum is that of the training rows
+-- among the first k.
 use mathlib.Core.Path.{_≡_, refl, sym, ap, _∙_}
 use mathlib.Core.Bool.{true, false}
 use mathlib.Core.List.{List, [], _∷_, _++_}
@@ -12,24 +12,29 @@ use lib.Ieee.{Float, nan, binary64, add, sub, mul, ofBits}
 use lib.ListN.{length, getD}
 use borrow.Author.Needs.{needs}
 use borrow.Author.Tests.{not-true, not-false}
+use Rattle.status.specs.Limits.{maxOrder, maxLetters}
 use Rattle.feature.specs.Feature.{trains, kept}
+use Rattle.peptide.specs.Table.{Table}
+use Rattle.embedding.specs.Design.{design}
 use Rattle.embedding.specs.declared.Model.{Model}
 use Rattle.regression.specs.Regression.{Sample, dot, sse as sseOf}
 use Rattle.regression.proofs.Laws.{sse-nil, sse-snoc}
-use Rattle.model_fit.specs.Input.{Input, inputOf, queryOf}
-use Rattle.model_fit.specs.Samples.{designOf}
-use Rattle.model_fit.specs.Shared.{Checked}
-use Rattle.model_fit.proofs.Rows.{order-max, seen, sampleAt, seen-trains, seen-outside, seen-all}
+use Rattle.model_fit.specs.Input.{Input, inputOf, inputAt}
+use Rattle.model_fit.specs.Shared.{Listed, Checked}
+use Rattle.model_fit.proofs.Rows.{order-max, looked-short, looked-up}
+use Rattle.model_fit.proofs.Rows.{seen, sampleAt, seen-trains, seen-outside, seen-all}
 use Rattle.model_fit.proofs.Status.{listed}
 use Rattle.model_fit.proofs.training.sum_squares.Statement.{statement}
 use Rattle.model_fit.proofs.training.sum_squares.Tie as tie
 
 abbrev Inv-loop : tie.InvT-loop
 Inv-loop model peptide label q charge observed letters offsets masses logs beta row₀ sse₀ k₀ k-end row sse k =
-    (k ≤ length peptide) × (sse ≡ sseOf beta (seen model (inputOf peptide label q charge observed letters offsets masses logs) k)) × (length row ≡ 100)
+    let input : Input = inputOf peptide label q charge observed letters offsets masses logs in
+    (k ≤ length peptide) × (sse ≡ sseOf beta (seen model input k)) × (length row ≡ maxOrder)
 
 abbrev μ-loop : tie.MeasureT-loop
-μ-loop model peptide label q charge observed letters offsets masses logs beta row₀ sse₀ k₀ k-end row sse k = length peptide - k
+μ-loop model peptide label q charge observed letters offsets masses logs beta row₀ sse₀ k₀ k-end row sse k =
+    length peptide - k
 
 -- where the function begins, and what it was passed
 abbrev start : tie.At-loop Inv-loop μ-loop → tie.Start Inv-loop μ-loop
@@ -38,35 +43,77 @@ start at = at .before .before .before .before .before .before .before .before .b
 abbrev passed : tie.Start Inv-loop μ-loop → Input
 passed s =
     let a = s .args in
-    inputOf (now (a .peptide)) (now (a .label)) (now (a .q)) (now (a .charge)) (now (a .observed)) (now (a .letters)) (now (a .offsets)) (now (a .masses)) (now (a .logs))
-
--- the start of a turn at a training row
-abbrev turn : tie.After-charge-at Inv-loop μ-loop → tie.In-loop Inv-loop μ-loop
-turn d = d .before .before .before .before .before .before
+    inputAt (a .peptide) (a .label) (a .q) (a .charge) (a .observed) (a .letters) (a .offsets) (a .masses) (a .logs)
 
 -- a turn's row is one of the rows
 inside : (t : tie.In-loop Inv-loop μ-loop) → t .before .loop .k < length (now (start (t .before) .args .peptide))
 inside t = omega (arith, t .loop-test .taken)
 
+-- its peptide is in the table
+has : (t : tie.In-loop Inv-loop μ-loop)
+    → let i = passed (start (t .before)) in Listed (i .table) (getD (i .peptides) (t .before .loop .k) 0)
+has t =
+    let s = start (t .before) in
+    listed (passed s .table) (passed s .peptides) (t .before .loop .k) (s .pre .numbered) (inside t)
+
+-- the place of the turn at which a training row's peptide is looked up
+module _ (m : tie.After-mass-at Inv-loop μ-loop) where
+  abbrev charged : tie.After-charge-at Inv-loop μ-loop
+  charged = m .before .before .before .before
+
+  abbrev test : tie.Else1 Inv-loop μ-loop
+  test = charged .before .before .before
+
+  abbrev turn : tie.In-loop Inv-loop μ-loop
+  turn = test .before .before
+
+  abbrev s : tie.Start Inv-loop μ-loop
+  s = start (turn .before)
+
+  abbrev k : ℕ
+  k = turn .before .loop .k
+
+  abbrev letters : List ℕ
+  letters = now (m .before .before .sequence .result)
+
+  abbrev table : Table
+  table = passed s .table
+
+  short : length letters ≤ maxLetters
+  short = looked-short table _ letters (m .before .before .sequence .ensures) (has turn)
+
+  row-is : design (s .args .model) letters (m .before .log-at .result) (m .mass-at .result) (charged .charge-at .result)
+      ≡ sampleAt (s .args .model) (passed s) k .row
+  row-is =
+      looked-up table _ letters (m .before .before .sequence .ensures) (s .args .model) _ _ _ _
+      (m .before .log-at .ensures) (m .mass-at .ensures) (charged .charge-at .ensures)
+
+  trained : let i = passed s in trains (getD (i .labels) k (pos 0)) (getD (i .qs) k nan) ≡ true
+  trained = sym (test .before .trains-at .ensures) ∙ not-false _ (test .if1 .left)
+
 -- one training row more
-one-more : (model : Model) (i : Input) (beta : List Float) (k z : ℕ) (x y before : Float) → Checked i → k < length (i .peptides)
+one-more : (model : Model) (i : Input) (beta : List Float) (k : ℕ) (x y before : Float) → Checked i
+    → k < length (i .peptides)
     → trains (getD (i .labels) k (pos 0)) (getD (i .qs) k nan) ≡ true
-    → z ≡ getD (i .charges) k 0
     → y ≡ getD (i .observed) k nan
-    → x ≡ dot (designOf model (i .table) (queryOf (getD (i .peptides) k 0) z)) beta
+    → x ≡ dot (sampleAt model i k .row) beta
     → before ≡ sseOf beta (seen model i k)
     → add binary64 before (mul binary64 (sub binary64 x y) (sub binary64 x y)) ≡ sseOf beta (seen model i (k + 1))
-one-more model i beta k z x y before checked h t ez ey ex eb =
+one-more model i beta k x y before checked h t ey ex eb =
     let ss : List Sample = seen model i k in
     let n : seen model i (k + 1) ≡ ss ++ sampleAt model i k ∷ [] = rw (add-one k) (seen-trains model i checked k h t) in
-    rw (ex, ez, ey, eb) (sym (sse-snoc beta ss (sampleAt model i k)) ∙ ap (sseOf beta) (sym n))
+    rw (ex, ey, eb) (sym (sse-snoc beta ss (sampleAt model i k)) ∙ ap (sseOf beta) (sym n))
 
 loop-holds : tie.Need-loop-holds Inv-loop μ-loop
 unfolding kept ofBits
-loop-holds c = (search needs, sym (sse-nil (now (c .before .before .before .before .before .before .before .before .before .args .beta))), refl)
+loop-holds c =
+    let s = c .before .before .before .before .before .before .before .before .before in
+    (search needs, sym (sse-nil (now (s .args .beta))), refl)
 
 trains-at-requires : tie.Need-trains-at-requires Inv-loop μ-loop
-trains-at-requires c κs = let s = start (c .before) in (omega (arith, s .pre .labels-long), omega (arith, s .pre .qs-long))
+trains-at-requires c κs =
+    let s = start (c .before) in
+    (omega (arith, s .pre .labels-long), omega (arith, s .pre .qs-long))
 
 add-k : tie.Need-add-k Inv-loop μ-loop
 add-k c = search needs
@@ -81,8 +128,10 @@ loop-again c =
     let model = s .args .model in
     let i : Input = passed s in
     let k = at .loop .k in
-    let t : trains (getD (i .labels) k (pos 0)) (getD (i .qs) k nan) ≡ false = sym (c .before .trains-at .ensures) ∙ not-true _ (c .if1 .taken) in
-    let n : seen model i (k + 1) ≡ seen model i k = rw (add-one k) (seen-outside model i (s .pre) k (inside (c .before .before)) t) in
+    let t : trains (getD (i .labels) k (pos 0)) (getD (i .qs) k nan) ≡ false =
+    sym (c .before .trains-at .ensures) ∙ not-true _ (c .if1 .taken) in
+    let n : seen model i (k + 1) ≡ seen model i k =
+    rw (add-one k) (seen-outside model i (s .pre) k (inside (c .before .before)) t) in
     (omega arith, at .loop .inv .1 ∙ ap (sseOf (now (s .args .beta))) (sym n), at .loop .inv .2)
 
 mul-widen : tie.Need-mul-widen Inv-loop μ-loop
@@ -94,23 +143,31 @@ shared-slice-read-widen c = omega (arith, start (c .before .before .before .befo
 widen-requires : tie.Need-widen-requires Inv-loop μ-loop
 widen-requires c κs = search needs
 
-mul-p : tie.Need-mul-p Inv-loop μ-loop
-mul-p c = search needs
-
-shared-slice-read-p : tie.Need-shared-slice-read-p Inv-loop μ-loop
-shared-slice-read-p c = search needs
-
 charge-at-requires : tie.Need-charge-at-requires Inv-loop μ-loop
 charge-at-requires c κs = search needs
 
+mul-number : tie.Need-mul-number Inv-loop μ-loop
+mul-number c = search needs
+
+shared-slice-read-number : tie.Need-shared-slice-read-number Inv-loop μ-loop
+shared-slice-read-number c = search needs
+
+sequence-requires : tie.Need-sequence-requires Inv-loop μ-loop
+sequence-requires c κs = has (c .before .before .before .before .before .before) .has
+
+log-at-requires : tie.Need-log-at-requires Inv-loop μ-loop
+log-at-requires c κs = search needs
+
+mass-at-requires : tie.Need-mass-at-requires Inv-loop μ-loop
+mass-at-requires c κs = has (c .before .before .before .before .before .before .before .before) .weighed
+
 slice-aggregate-predict-peptide : tie.Need-slice-aggregate-predict-peptide Inv-loop μ-loop
-slice-aggregate-predict-peptide c = sym (c .before .before .before .before .before .before .before .before .loop .inv .2)
+slice-aggregate-predict-peptide c = sym (turn (c .before) .before .loop .inv .2)
 
 predict-peptide-requires : tie.Need-predict-peptide-requires Inv-loop μ-loop
 predict-peptide-requires c κs =
-    let t = turn (c .before) in
-    let s = start (t .before) in
-    (listed _ _ _ (s .pre .numbered) (inside t), omega (arith, order-max (s .args .model), t .before .loop .inv .2))
+    let m = c .before in
+    (short m, omega (arith, order-max (s m .args .model), turn m .before .loop .inv .2))
 
 residual-of-requires : tie.Need-residual-of-requires Inv-loop μ-loop
 residual-of-requires c κs = search needs
@@ -123,26 +180,24 @@ loop-less-2 c = search needs
 
 loop-again-2 : tie.Need-loop-again-2 Inv-loop μ-loop
 loop-again-2 c =
-    let d = c .before .before .before .before in
     let x = c .before .before .predict-peptide in
-    let t = turn d in
-    let l = t .before .loop in
-    let s = start (t .before) in
-    let i : Input = passed s in
-    let y = d .before .before .widen in
-    let test = d .before .before .before .before in
-    let trained : trains (getD (i .labels) (l .k) (pos 0)) (getD (i .qs) (l .k) nan) ≡ true = sym (test .before .trains-at .ensures) ∙ not-false _ (test .if1 .left) in (
-      omega (arith, inside t),
+    let m = c .before .before .before .before in
+    let l = turn m .before .loop in
+    let a = s m .args in
+    let y = charged m .before .widen in (
+      omega (arith, inside (turn m)),
       rw (c .residual-of .ensures)
-          (one-more (s .args .model) i (now (s .args .beta)) (l .k) (d .charge-at .result) (x .result) (y .result) (l .sse) (s .pre) (inside t) trained
-          (d .charge-at .ensures) (y .ensures) (x .ensures .prediction) (l .inv .1)),
-      x .kept .1 .1 .1 .1 .1 .1 .1 .1 .0 ∙ l .inv .2,
+          (one-more (a .model) (passed (s m)) (now (a .beta)) (k m) (x .result) (y .result) (l .sse) (s m .pre)
+          (inside (turn m)) (trained m) (y .ensures)
+          (x .ensures .prediction ∙ ap (λ (r : List Float). dot r (now (a .beta))) (row-is m)) (l .inv .1)),
+      x .kept .1 .1 .1 .1 .1 .1 .0 ∙ l .inv .2,
     )
 
 returns : tie.Need-returns Inv-loop μ-loop
 returns c =
     let s = start (c .before) in
-    c .before .loop .inv .1 ∙ ap (sseOf (now (s .args .beta))) (seen-all (s .args .model) (passed s) (s .pre) (c .before .loop .k) (omega arith))
+    let l = c .before .loop in
+    l .inv .1 ∙ ap (sseOf (now (s .args .beta))) (seen-all (s .args .model) (passed s) (s .pre) (l .k) (omega arith))
 
 pub sum-squares-spec : {M : Type 1} → statement M
 sum-squares-spec =
@@ -158,9 +213,12 @@ sum-squares-spec =
     mul-widen
     shared-slice-read-widen
     widen-requires
-    mul-p
-    shared-slice-read-p
     charge-at-requires
+    mul-number
+    shared-slice-read-number
+    sequence-requires
+    log-at-requires
+    mass-at-requires
     slice-aggregate-predict-peptide
     predict-peptide-requires
     residual-of-requires

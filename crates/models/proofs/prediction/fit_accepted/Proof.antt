@@ -1,49 +1,74 @@
 -- `models::prediction::fit_accepted` meets its contract: the slices' first cells are lent and come back.
-use mathlib.Core.Path.{_∙_}
+use mathlib.Core.Path.{_≡_, ap, _∙_}
 use mathlib.Core.List.{List}
 use Prim.Native.Nat.{ℕ, _≤_}
 use native.Mathlib.Omega.{arith}
 use denote.Ref.{now}
-use lib.Ieee.{Float}
 use lib.ListN.{length, length-take}
 use lib.Seq.{length-take-le}
-use Rattle.model_fit.specs.Input.{Input, inputOf}
-use Rattle.model_fit.proofs.Rows.{order-max}
-use Rattle.models.proofs.Calls.{room, two-systems, fitted-within}
 use borrow.Author.Needs.{needs}
+use Rattle.embedding.specs.Design.{orderOf}
+use Rattle.regression.specs.Workspace.{FitSlices, workspaceCells}
+use Rattle.model_fit.specs.Input.{Input, inputAt}
+use Rattle.model_fit.proofs.Rows.{order-max}
+use Rattle.models.proofs.Calls.{Room, room, fitted-within}
 use Rattle.models.proofs.prediction.fit_accepted.Statement.{statement}
 use Rattle.models.proofs.prediction.fit_accepted.Tie as tie
 
-workspace-cells-requires : tie.Need-workspace-cells-requires
-workspace-cells-requires c κs = search needs
+-- the cells that are lent
+module _ (w : tie.After-workspace-cells) where
+  abbrev s : tie.Start
+  s = w .before .before .before .before .before .before .before .before .before .before .before .before
+
+  abbrev d : ℕ
+  d = w .before .order .result
+
+  abbrev k : ℕ
+  k = w .workspace-cells .result
+
+  d-is : d ≡ orderOf (s .args .model)
+  d-is = w .before .order .ensures
+
+  k-is : k ≡ workspaceCells (orderOf (s .args .model))
+  k-is = w .workspace-cells .ensures ∙ ap workspaceCells d-is
+
+  roomy : Room (s .args .model) (length (now (s .args .workspace))) (length (now (s .args .beta)))
+  roomy = room (s .args .model) (length (now (s .args .workspace))) (length (now (s .args .beta))) (s .pre .1)
+
+  k-fits : k ≤ length (now (s .args .workspace))
+  k-fits = omega (arith, k-is, roomy .cells)
+
+  d-fits : d ≤ length (now (s .args .beta))
+  d-fits = omega (arith, d-is, roomy .coefficients)
 
 order-requires : tie.Need-order-requires
 order-requires c κs = search needs
 
+workspace-cells-requires : tie.Need-workspace-cells-requires
+workspace-cells-requires c κs =
+    let s = c .before .before .before .before .before .before .before .before .before .before .before in
+    omega (arith, c .order .ensures, order-max (s .args .model))
+
 slice-relend-prefix-fit-checked : tie.Need-slice-relend-prefix-fit-checked
-slice-relend-prefix-fit-checked c = omega (arith, c .before .workspace-cells .ensures, room (c .before .before .before .before .before .before .before .before .before .before .before .before .args .model) (length (now (c .before .before .before .before .before .before .before .before .before .before .before .before .args .workspace))) (length (now (c .before .before .before .before .before .before .before .before .before .before .before .before .args .beta))) (c .before .before .before .before .before .before .before .before .before .before .before .before .pre .1) .cells)
+slice-relend-prefix-fit-checked c = k-fits c
 
 slice-aggregate-fit-checked : tie.Need-slice-aggregate-fit-checked
-slice-aggregate-fit-checked c = simp length-take (omega (arith, c .before .before .workspace-cells .ensures, room (c .before .before .before .before .before .before .before .before .before .before .before .before .before .args .model) (length (now (c .before .before .before .before .before .before .before .before .before .before .before .before .before .args .workspace))) (length (now (c .before .before .before .before .before .before .before .before .before .before .before .before .before .args .beta))) (c .before .before .before .before .before .before .before .before .before .before .before .before .before .pre .1) .cells))
+slice-aggregate-fit-checked c = simp length-take (omega (arith, k-fits (c .before)))
 
 slice-relend-prefix-fit-checked-2 : tie.Need-slice-relend-prefix-fit-checked-2
-slice-relend-prefix-fit-checked-2 c = omega (arith, c .before .order .ensures, room (c .before .before .before .before .before .before .before .before .before .before .before .before .before .args .model) (length (now (c .before .before .before .before .before .before .before .before .before .before .before .before .before .args .workspace))) (length (now (c .before .before .before .before .before .before .before .before .before .before .before .before .before .args .beta))) (c .before .before .before .before .before .before .before .before .before .before .before .before .before .pre .1) .coefficients)
+slice-relend-prefix-fit-checked-2 c = d-fits (c .before)
 
 slice-aggregate-fit-checked-2 : tie.Need-slice-aggregate-fit-checked-2
-slice-aggregate-fit-checked-2 c = simp length-take (omega (arith, c .before .before .order .ensures, room (c .before .before .before .before .before .before .before .before .before .before .before .before .before .before .args .model) (length (now (c .before .before .before .before .before .before .before .before .before .before .before .before .before .before .args .workspace))) (length (now (c .before .before .before .before .before .before .before .before .before .before .before .before .before .before .args .beta))) (c .before .before .before .before .before .before .before .before .before .before .before .before .before .before .pre .1) .coefficients))
+slice-aggregate-fit-checked-2 c = simp length-take (omega (arith, d-fits (c .before .before)))
 
 fit-checked-requires : tie.Need-fit-checked-requires
 fit-checked-requires c κs =
-    let a = c .before .before .before .before .before .before .before .before .before .before .before .before .before .before .args in
-    let k : ℕ = c .before .before .before .workspace-cells .result in
-    let d : ℕ = c .before .before .order .result in
-    let r = room (a .model) (length (now (a .workspace))) (length (now (a .beta))) (c .before .before .before .before .before .before .before .before .before .before .before .before .before .before .pre .1) in
-    let hk : k ≤ length (now (a .workspace)) = omega (arith, c .before .before .before .workspace-cells .ensures, r .cells) in
-    let hd : d ≤ length (now (a .beta)) = omega (arith, c .before .before .order .ensures, r .coefficients) in (
-      c .before .before .before .before .before .before .before .before .before .before .before .before .before .before .pre .0,
+    let w = c .before .before in
+    let a = s w .args in (
+      s w .pre .0,
       (
-        record { order = order-max (a .model); count = length-take-le k (now (a .workspace)) hk ∙ c .before .before .before .workspace-cells .ensures ∙ two-systems (a .model) },
-        length-take-le d (now (a .beta)) hd ∙ c .before .before .order .ensures,
+        record { order = order-max (a .model); count = length-take-le (k w) (now (a .workspace)) (k-fits w) ∙ k-is w },
+        length-take-le (d w) (now (a .beta)) (d-fits w) ∙ d-is w,
       ),
     )
 
@@ -55,24 +80,23 @@ same-length-2 c = search needs
 
 returns : tie.Need-returns
 returns c =
-    let a = c .before .before .before .before .before .before .before .before .before .before .before .before .before .before .before .before .before .before .before .args in
-    let k : ℕ = c .before .before .before .before .before .before .before .before .workspace-cells .result in
-    let d : ℕ = c .before .before .before .before .before .before .before .order .result in
+    let f = c .before .before .before .before in
+    let w = f .before .before .before in
+    let a = s w .args in
     let i : Input =
-    inputOf (now (a .peptide)) (now (a .label)) (now (a .q)) (now (a .charge)) (now (a .observed)) (now (a .letters)) (now (a .offsets)) (now (a .masses)) (now (a .logs)) in
-    let r = room (a .model) (length (now (a .workspace))) (length (now (a .beta))) (c .before .before .before .before .before .before .before .before .before .before .before .before .before .before .before .before .before .before .before .pre .1) in
-    let hk : k ≤ length (now (a .workspace)) = omega (arith, c .before .before .before .before .before .before .before .before .workspace-cells .ensures, r .cells) in
-    let hd : d ≤ length (now (a .beta)) = omega (arith, c .before .before .before .before .before .before .before .order .ensures, r .coefficients) in
-    let w : List Float = c .before .before .before .before .fit-checked .last .1 .1 .1 .1 .1 .1 .1 .1 .1 .1 .0 in
-    let b : List Float = c .before .before .before .before .fit-checked .last .1 .1 .1 .1 .1 .1 .1 .1 .1 .1 .1 .0 in
-    fitted-within (a .model) i k d (now (a .workspace)) w (now (a .beta)) b (c .before .before .before .before .fit-checked .result) (c .before .before .before .before .before .before .before .before .workspace-cells .ensures) (c .before .before .before .before .before .before .before .order .ensures) hk hd (c .before .before .before .before .fit-checked .kept .1 .1 .1 .1 .1 .1 .1 .1 .1 .1 .1 .0) (c .before .before .before .before .fit-checked .ensures)
+    inputAt (a .peptide) (a .label) (a .q) (a .charge) (a .observed) (a .letters) (a .offsets) (a .masses) (a .logs) in
+    let l = f .fit-checked .last .1 .1 .1 .1 .1 .1 .1 .1 .1 .1 in
+    let before : FitSlices = record { workspace = now (a .workspace); coefficients = now (a .beta) } in
+    let after : FitSlices = record { workspace = l .0; coefficients = l .1 .0 } in
+    fitted-within (a .model) i (k w) (d w) before after (f .fit-checked .result) (k-is w) (d-is w) (k-fits w) (d-fits w)
+    (f .fit-checked .kept .1 .1 .1 .1 .1 .1 .1 .1 .1 .1 .1 .0) (f .fit-checked .ensures)
 
 pub fit-accepted-spec : {M : Type 1} → statement M
 fit-accepted-spec =
     tie.close
     (tie.spec
-    workspace-cells-requires
     order-requires
+    workspace-cells-requires
     slice-relend-prefix-fit-checked
     slice-aggregate-fit-checked
     slice-relend-prefix-fit-checked-2

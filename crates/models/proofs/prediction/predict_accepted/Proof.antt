@@ -1,13 +1,19 @@
 -- `models::prediction::predict_accepted` meets its contract: solved and written, or not solved and left.
 use mathlib.Core.Path.{_≡_, sym, _∙_}
 use mathlib.Core.Bool.{true, false}
+use mathlib.Core.List.{List}
+use Prim.Native.Nat.{ℕ, _≤_}
 use native.Mathlib.Omega.{arith}
 use denote.Ref.{now}
+use lib.Ieee.{Float}
 use lib.ListN.{length, length-take}
+use Rattle.embedding.specs.Design.{orderOf}
 use Rattle.regression.specs.declared.FitOutcome.{FitOutcome}
-use Rattle.model_fit.specs.Input.{Input, inputOf}
+use Rattle.model_fit.specs.Input.{Input, inputAt}
 use Rattle.models.specs.Prediction.{isSolved}
-use Rattle.models.proofs.Calls.{Room, room, PredictRoom, predict-room, solved-predictions, solved-errors, unsolved-predictions, unsolved-errors}
+use Rattle.models.specs.Call.{PredictSlices, predictAt, fitPart}
+use Rattle.models.proofs.Calls.{Room, room, PredictRoom, predict-room, predicted-within}
+use Rattle.models.proofs.Calls.{solved-predictions, solved-errors, unsolved-predictions, unsolved-errors}
 use borrow.Author.Needs.{needs}
 use Rattle.models.proofs.prediction.predict_accepted.Statement.{statement}
 use Rattle.models.proofs.prediction.predict_accepted.Tie as tie
@@ -17,16 +23,61 @@ module _ (s : tie.Start) where
   abbrev passed : Input
   passed =
       let a = s .args in
-      inputOf (now (a .peptide)) (now (a .label)) (now (a .q)) (now (a .charge)) (now (a .observed)) (now (a .letters)) (now (a .offsets)) (now (a .masses)) (now (a .logs))
+      inputAt (a .peptide) (a .label) (a .q) (a .charge) (a .observed) (a .letters) (a .offsets) (a .masses) (a .logs)
 
-  roomy : let a = s .args in PredictRoom (a .model) (length (now (a .peptide))) (length (now (a .workspace))) (length (now (a .beta))) (length (now (a .predicted))) (length (now (a .error)))
-  roomy = let a = s .args in predict-room (a .model) (length (now (a .peptide))) (length (now (a .workspace))) (length (now (a .beta))) (length (now (a .predicted))) (length (now (a .error))) (s .pre .1)
+  abbrev held : PredictSlices
+  held = let a = s .args in predictAt (a .workspace) (a .beta) (a .predicted) (a .error)
+
+  roomy : let a = s .args in PredictRoom (a .model) (length (now (a .peptide)))
+      (length (now (a .workspace))) (length (now (a .beta))) (length (now (a .predicted))) (length (now (a .error)))
+  roomy =
+      let a = s .args in
+      predict-room (a .model) (length (now (a .peptide)))
+      (length (now (a .workspace))) (length (now (a .beta))) (length (now (a .predicted))) (length (now (a .error)))
+      (s .pre .1)
 
   fit-room : let a = s .args in Room (a .model) (length (now (a .workspace))) (length (now (a .beta)))
-  fit-room = let a = s .args in room (a .model) (length (now (a .workspace))) (length (now (a .beta))) (roomy .fitted)
+  fit-room =
+      let a = s .args in room (a .model) (length (now (a .workspace))) (length (now (a .beta))) (roomy .fitted)
+
+-- places in the code, each as a later one sees it
+abbrev start : tie.After-fit-accepted → tie.Start
+start g =
+    g .before .before .before .before .before .before .before .before .before .before .before .before .before .before
+    .before
+
+-- the fit is solved
+module _ (o : tie.After-order) where
+  abbrev fitted : tie.After-fit-accepted
+  fitted = o .before .before .before .before .before .before .before
+
+  abbrev s : tie.Start
+  s = start fitted
+
+  abbrev r : FitOutcome
+  r = fitted .fit-accepted .result
+
+  abbrev beta : List Float
+  beta = fitted .fit-accepted .last .1 .1 .1 .1 .1 .1 .1 .1 .1 .1 .1 .0
+
+  solved : isSolved r ≡ true
+  solved = sym (o .before .before .is-solved .ensures) ∙ o .before .if1 .taken
+
+  -- as many coefficients are lent as there are columns
+  d-fits : o .order .result ≤ length beta
+  d-fits =
+      omega (
+        arith,
+        o .order .ensures,
+        fit-room s .coefficients,
+        fitted .fit-accepted .kept .1 .1 .1 .1 .1 .1 .1 .1 .1 .1 .1 .0,
+      )
 
 fit-accepted-requires : tie.Need-fit-accepted-requires
-fit-accepted-requires c κs = let s = c .before .before .before .before .before .before .before .before .before .before .before .before .before .before in (s .pre .0, roomy s .fitted)
+fit-accepted-requires c κs =
+    let s =
+    c .before .before .before .before .before .before .before .before .before .before .before .before .before .before in
+    (s .pre .0, roomy s .fitted)
 
 is-solved-requires : tie.Need-is-solved-requires
 is-solved-requires c κs = search needs
@@ -35,19 +86,22 @@ order-requires : tie.Need-order-requires
 order-requires c κs = search needs
 
 slice-reshare-prefix-write-predictions : tie.Need-slice-reshare-prefix-write-predictions
-slice-reshare-prefix-write-predictions c = omega (arith, c .order .ensures, fit-room (c .before .before .before .before .before .before .before .before .before .before .before .before .before .before .before .before .before .before .before .before .before .before) .coefficients, c .before .before .before .before .before .before .before .fit-accepted .kept .1 .1 .1 .1 .1 .1 .1 .1 .1 .1 .1 .0)
+slice-reshare-prefix-write-predictions c = d-fits c
 
 slice-aggregate-write-predictions : tie.Need-slice-aggregate-write-predictions
-slice-aggregate-write-predictions c = simp length-take (omega (arith, c .before .order .ensures, fit-room (c .before .before .before .before .before .before .before .before .before .before .before .before .before .before .before .before .before .before .before .before .before .before .before) .coefficients, c .before .before .before .before .before .before .before .before .fit-accepted .kept .1 .1 .1 .1 .1 .1 .1 .1 .1 .1 .1 .0))
+slice-aggregate-write-predictions c = simp length-take (omega (arith, d-fits (c .before)))
 
 write-predictions-requires : tie.Need-write-predictions-requires
-write-predictions-requires c κs = let s = c .before .before .before .before .before .before .before .before .before .before .before .before .before .before .before .before .before .before .before .before .before .before .before .before in (s .pre .0 .numbered, roomy s .predictions)
+write-predictions-requires c κs = let s = s (c .before .before) in (s .pre .0 .numbered, roomy s .predictions)
 
 write-errors-requires : tie.Need-write-errors-requires
 write-errors-requires c κs =
-    let s = c .before .before .before .before .before .before .before .before .before .before .before .before .before .before .before .before .before .before .before .before .before .before .before .before .before .before .before .before .before in
-    let same = s .pre .0 .observed-long in
-    (omega (arith, same, roomy s .predictions, c .before .before .before .before .write-predictions .kept .1 .1 .1 .1 .1 .1 .1 .1 .0), omega (arith, same, roomy s .errors))
+    let p = c .before .before .before .before in
+    let s = s (p .before .before .before) in
+    let same = s .pre .0 .observed-long in (
+      omega (arith, same, roomy s .predictions, p .write-predictions .kept .1 .1 .1 .1 .1 .1 .1 .1 .0),
+      omega (arith, same, roomy s .errors),
+    )
 
 same-length : tie.Need-same-length
 same-length c = search needs
@@ -63,21 +117,19 @@ same-length-4 c = search needs
 
 returns : tie.Need-returns
 returns c =
-    let s = c .before .before .before .before .before .before .before .before .before .before .before .before .before .before .before .before .before .before .before .before .before .before .before .before .before .before .before .before .before .before .before .before in
-    let a = s .args in
-    let i : Input = passed s in
-    let g = c .before .before .before .before .before .before .before .before .before .before .before .before .before .before .before .before .before .fit-accepted in
-    let r : FitOutcome = g .result in
-    let e : isSolved r ≡ true = sym (c .before .before .before .before .before .before .before .before .before .before .before .before .is-solved .ensures) ∙ c .before .before .before .before .before .before .before .before .before .before .before .if1 .taken in
-    let d = c .before .before .before .before .before .before .before .before .before .before .order in
-    let p = c .before .before .before .before .before .before .before .write-predictions in
-    let x = c .before .before .write-errors in
-    record {
-      fitted = g .ensures;
-      predicted = solved-predictions (a .model) i _ _ r (g .ensures) e (d .result) (d .ensures) (now (a .predicted)) (p .last .1 .1 .1 .1 .1 .1 .1 .1 .0) (p .ensures);
-      error =
-          solved-errors (a .model) i _ _ r (g .ensures) e (d .result) (d .ensures) (now (a .predicted)) (p .last .1 .1 .1 .1 .1 .1 .1 .1 .0) (p .ensures) (now (a .error)) (x .last .1 .1 .0) (s .pre .0 .observed-long) (x .ensures);
-    }
+    let x = c .before .before in
+    let p = x .before .before .before .before .before in
+    let o = p .before .before .before in
+    let a = s o .args in
+    let i : Input = passed (s o) in
+    let f = fitted o .fit-accepted .ensures in
+    let d = o .order in
+    let new : List Float = p .write-predictions .last .1 .1 .1 .1 .1 .1 .1 .1 .0 in
+    predicted-within (a .model) i (held (s o)) _ (r o) f
+    (solved-predictions (a .model) i _ _ (r o) f (solved o) (d .result) (d .ensures) (now (a .predicted)) new
+    (p .write-predictions .ensures))
+    (solved-errors (a .model) i _ _ (r o) f (solved o) (d .result) (d .ensures) (now (a .predicted)) new
+    (p .write-predictions .ensures) (now (a .error)) _ (s o .pre .0 .observed-long) (x .write-errors .ensures))
 
 same-length-5 : tie.Need-same-length-5
 same-length-5 c = search needs
@@ -87,17 +139,16 @@ same-length-6 c = search needs
 
 returns-2 : tie.Need-returns-2
 returns-2 c =
-    let s = c .before .before .before .before .before .before .before .before .before .before .before .before .before .before .before .before .before .before .before .before .before in
+    let g = c .before .before .before .before .before .before in
+    let s = start g in
     let a = s .args in
     let i : Input = passed s in
-    let g = c .before .before .before .before .before .before .fit-accepted in
-    let r : FitOutcome = g .result in
+    let r : FitOutcome = g .fit-accepted .result in
+    let f = g .fit-accepted .ensures in
     let u : isSolved r ≡ false = sym (c .before .is-solved .ensures) ∙ c .if1 .left in
-    record {
-      fitted = g .ensures;
-      predicted = unsolved-predictions (a .model) i _ _ r (g .ensures) u (now (a .predicted));
-      error = unsolved-errors (a .model) i _ _ r (g .ensures) u (now (a .error));
-    }
+    predicted-within (a .model) i (held s) _ r f
+    (unsolved-predictions (a .model) i _ _ r f u (now (a .predicted)))
+    (unsolved-errors (a .model) i _ _ r f u (now (a .error)))
 
 pub predict-accepted-spec : {M : Type 1} → statement M
 predict-accepted-spec =

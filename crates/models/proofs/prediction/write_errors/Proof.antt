@@ -1,5 +1,5 @@
--- `models::prediction::write_errors` meets its contract. The loop's invariant: the first i cells are the errors of the first i rows, and the others are as they
--- were.
+-- `models::prediction::write_errors` meets its contract. The loop's invariant: the first i cells are the errors of the
+-- first i rows, and the others are as they were.
 use mathlib.Core.Path.{_≡_, refl, _∙_}
 use mathlib.Core.List.{List, _++_, zipWith}
 use Prim.Native.Nat.{_+_, _-_, _≤_, _<_}

@@ -1,4 +1,5 @@
--- `retention_alignment::times::clear` meets its contract. The loop's invariant: the first k cells are ABSENT, the others as they were.
+-- `retention_alignment::times::clear` meets its contract. The loop's invariant: the first k cells are ABSENT, the
+-- others as they were.
 use mathlib.Core.Path.{_≡_, refl, _∙_, ap}
 use mathlib.Core.List.{_++_}
 use Prim.Native.Nat.{ℕ, _+_, _-_, _≤_, _<_}

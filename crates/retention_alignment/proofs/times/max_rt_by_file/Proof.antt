@@ -1,5 +1,5 @@
--- `retention_alignment::times::max_rt_by_file` meets its contract. The loop's invariant: each file's longest time so far, with that of the rows
--- from i on, is that of all rows.
+-- `retention_alignment::times::max_rt_by_file` meets its contract. The loop's invariant: each file's longest time so
+-- far, with that of the rows from i on, is that of all rows.
 use mathlib.Core.Path.{_≡_, refl, sym, ap, _∙_}
 use mathlib.Core.List.{List}
 use Prim.Native.Nat.{ℕ, _+_, _-_, _≤_, _<_}

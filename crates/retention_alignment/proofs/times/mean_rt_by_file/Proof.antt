@@ -1,5 +1,5 @@
--- `retention_alignment::times::mean_rt_by_file` meets its contract. The loop's invariant: what each cell holds, carried on over the training rows
--- from i on, is the smallest time of all training rows.
+-- `retention_alignment::times::mean_rt_by_file` meets its contract. The loop's invariant: what each cell holds,
+-- carried on over the training rows from i on, is the smallest time of all training rows.
 use mathlib.Core.Path.{_≡_, refl, sym, ap, _∙_}
 use mathlib.Core.Bool.{Bool, true, false, cond}
 use mathlib.Core.List.{List, _∷_}

@@ -1,5 +1,5 @@
--- `rt_matrix::mean::row_mean` meets its contract. The loop's invariant: the sum and the count, carried on over the cells from f on, give the
--- whole row's.
+-- `rt_matrix::mean::row_mean` meets its contract. The loop's invariant: the sum and the count, carried on over the
+-- cells from f on, give the whole row's.
 use mathlib.Core.Path.{_≡_, refl, sym, ap, ap₂, _∙_}
 use mathlib.Core.List.{List, [], _∷_, foldl}
 use mathlib.Core.Option.{Option}

@@ -1,5 +1,5 @@
--- `rt_matrix::squares::add_peptides` meets its contract. The loop's invariant: the squares, carried on over the rows that are left, give what the
--- whole gives.
+-- `rt_matrix::squares::add_peptides` meets its contract. The loop's invariant: the squares, carried on over the rows
+-- that are left, give what the whole gives.
 use mathlib.Core.Path.{_≡_, refl, sym, ap, _∙_}
 use mathlib.Core.List.{List, foldl}
 use Prim.Native.Nat.{ℕ, _+_, _-_, _*_, _≤_, _<_}

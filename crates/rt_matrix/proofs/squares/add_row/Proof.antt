@@ -1,5 +1,5 @@
--- `rt_matrix::squares::add_row` meets its contract. The loop's invariant: the first f files' squares are done (`upTo f`), and the length is as
--- it was.
+-- `rt_matrix::squares::add_row` meets its contract. The loop's invariant: the first f files' squares are done (`upTo
+-- f`), and the length is as it was.
 use mathlib.Core.Path.{_≡_, refl, sym, ap, ap₂, _∙_}
 use mathlib.Core.Option.{none}
 use Prim.Native.Nat.{ℕ, _+_, _-_, _≤_, _<_}

@@ -1,4 +1,5 @@
--- `rt_matrix::squares::x_means` meets its contract. The loop's invariant: the first f means are done (`upTo f`), and the length is as it was.
+-- `rt_matrix::squares::x_means` meets its contract. The loop's invariant: the first f means are done (`upTo f`), and
+-- the length is as it was.
 use mathlib.Core.Path.{_≡_, refl, sym, ap, ap₂, _∙_}
 use Prim.Native.Nat.{ℕ, _+_, _-_, _≤_, _<_}
 use native.Mathlib.Nat.{le-of-eq}

@@ -1,5 +1,5 @@
--- `rt_matrix::sums::add_peptides` meets its contract. The loop's invariant: the sums, carried on over the rows that are left, give what the
--- whole gives; and a file has counted at most one point for each row that is done.
+-- `rt_matrix::sums::add_peptides` meets its contract. The loop's invariant: the sums, carried on over the rows that
+-- are left, give what the whole gives; and a file has counted at most one point for each row that is done.
 use mathlib.Core.Path.{_≡_, refl, sym, ap, ap₂, _∙_}
 use mathlib.Core.List.{List, foldl}
 use mathlib.Core.Option.{Option}

@@ -1,5 +1,5 @@
--- `rt_matrix::sums::add_row` meets its contract. The loop's invariant: the first f files' sums are done (`upTo f`), and the lengths are as
--- they were.
+-- `rt_matrix::sums::add_row` meets its contract. The loop's invariant: the first f files' sums are done (`upTo f`),
+-- and the lengths are as they were.
 use mathlib.Core.Path.{_≡_, refl, sym, ap, ap₂, _∙_, subst}
 use mathlib.Core.Option.{Option, none}
 use Prim.Native.Nat.{ℕ, _+_, _-_, _≤_, _<_, _^_}

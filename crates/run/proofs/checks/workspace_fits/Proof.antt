@@ -1,21 +1,41 @@
--- `run::checks::workspace_fits` meets its contract: peptides × files is within the workspace where peptides is within the quotient.
-use mathlib.Core.Path.{sym}
+-- `run::checks::workspace_fits` meets its contract: with the cells of a fit, only the alignment's are left to ask.
+use mathlib.Core.Path.{_≡_, sym, ap, _∙_}
+use Prim.Native.Nat.{_*_, _≤_, _<_}
+use native.Mathlib.Omega.{arith}
 use borrow.Author.Needs.{needs}
-use Rattle.run.proofs.CheckLaws.{quotient, no-files, too-few, positive}
+use Rattle.embedding.specs.Design.{orderOf}
+use Rattle.embedding.specs.declared.Model.the-variants.{Mobility}
+use Rattle.regression.specs.Workspace.{workspaceCells}
+use Rattle.run.proofs.CheckLaws.{with-least, too-few}
 use Rattle.run.proofs.checks.workspace_fits.Statement.{statement}
 use Rattle.run.proofs.checks.workspace_fits.Tie as tie
 
+order-requires : tie.Need-order-requires
+order-requires c κs = search needs
+
+workspace-cells-requires : tie.Need-workspace-cells-requires
+workspace-cells-requires c κs = omega (arith, c .order .ensures)
+
+-- the cells of mobility's fit
+fit-cells : (c : tie.After-workspace-cells) → c .workspace-cells .result ≡ workspaceCells (orderOf Mobility)
+fit-cells c = c .workspace-cells .ensures ∙ ap workspaceCells (c .before .order .ensures)
+
 returns : tie.Need-returns
-returns c = sym (too-few _ 20200 _ (c .if1 .taken))
+returns c =
+    let a = c .before .before .before .args in
+    let few : a .workspace < workspaceCells (orderOf Mobility) = omega (arith, c .if1 .taken, fit-cells (c .before)) in
+    sym (too-few (a .peptides * a .files) (workspaceCells (orderOf Mobility)) (a .workspace) few)
+
+cells-fit-requires : tie.Need-cells-fit-requires
+cells-fit-requires c κs = search needs
 
 returns-2 : tie.Need-returns-2
-returns-2 c = sym (no-files _ (c .before .before .args .peptides) 20200 _ (c .if2 .taken) (c .before .if1 .left))
-
-div-result : tie.Need-div-result
-div-result c = search needs
-
-returns-3 : tie.Need-returns-3
-returns-3 c = quotient (c .before .before .args .files) _ 20200 _ (positive _ (c .if2 .left)) (c .before .if1 .left)
+returns-2 c =
+    let e = c .before in
+    let a = e .before .before .before .args in
+    let least : workspaceCells (orderOf Mobility) ≤ a .workspace = omega (arith, e .if1 .left, fit-cells (e .before)) in
+    c .cells-fit .ensures ∙ with-least (a .peptides * a .files) (workspaceCells (orderOf Mobility)) (a .workspace) least
 
 pub workspace-fits-spec : {M : Type 1} → statement M
-workspace-fits-spec = tie.close (tie.spec returns returns-2 div-result returns-3)
+workspace-fits-spec =
+    tie.close (tie.spec order-requires workspace-cells-requires returns cells-fit-requires returns-2)

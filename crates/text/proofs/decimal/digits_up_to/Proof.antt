@@ -1,4 +1,5 @@
--- `text::decimal::digits_up_to` meets its contract. The loop's invariant: reading what is left from v gives what reading the whole gives.
+-- `text::decimal::digits_up_to` meets its contract. The loop's invariant: reading what is left from v gives what
+-- reading the whole gives.
 use mathlib.Core.Path.{_≡_, refl, sym, ap, _∙_}
 use mathlib.Core.List.{List, _∷_}
 use Prim.Native.Nat.{ℕ, _+_, _-_, _*_, _≤_, _<_}

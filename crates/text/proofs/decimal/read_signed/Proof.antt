@@ -1,4 +1,5 @@
--- `text::decimal::read_signed` meets its contract: by the first byte, as the definition goes. A negative number is -1 less what is below it.
+-- `text::decimal::read_signed` meets its contract: by the first byte, as the definition goes. A negative number is -1
+-- less what is below it.
 use mathlib.Core.Path.{_≡_, refl, sym, ap, _∙_, subst}
 use Prim.Native.Nat.{ℕ, zero, suc, _-_, _^_, _≤_, _<_}
 use native.Mathlib.Nat.{zero-add}

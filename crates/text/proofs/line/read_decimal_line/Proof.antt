@@ -11,7 +11,16 @@ use Rattle.text.specs.declared.line.DecimalLine.the-variants as DL
 use Rattle.text.specs.Line.{lineOf, decimalLine}
 use Rattle.text.specs.Decimal.{readDecimal}
 use Rattle.text.specs.Answer.{valueAt, decimalLineAt}
-use Rattle.text.proofs.Answers.{line-malformed, found-le, found-within, line-none, line-some, next-is, decimal-none, decimal-some}
+use Rattle.text.proofs.Answers.{
+  line-malformed,
+  found-le,
+  found-within,
+  line-none,
+  line-some,
+  next-is,
+  decimal-none,
+  decimal-some,
+}
 use Rattle.text.proofs.line.read_decimal_line.Statement.{statement}
 use Rattle.text.proofs.line.read_decimal_line.Tie as tie
 

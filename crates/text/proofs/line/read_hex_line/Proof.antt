@@ -11,7 +11,17 @@ use Rattle.text.specs.declared.line.ValueAt.the-variants as VA
 use Rattle.text.specs.declared.line.HexLine.the-variants as HL
 use Rattle.text.specs.Line.{lineOf, readHexDigits, hexLine}
 use Rattle.text.specs.Answer.{valueAt, hexLineAt}
-use Rattle.text.proofs.Answers.{line-malformed, found-le, found-within, line-none, line-some, next-is, digits-other, digits-none, digits-some}
+use Rattle.text.proofs.Answers.{
+  line-malformed,
+  found-le,
+  found-within,
+  line-none,
+  line-some,
+  next-is,
+  digits-other,
+  digits-none,
+  digits-some,
+}
 use Rattle.text.proofs.line.read_hex_line.Statement.{statement}
 use Rattle.text.proofs.line.read_hex_line.Tie as tie
 

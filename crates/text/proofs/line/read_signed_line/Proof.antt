@@ -13,7 +13,16 @@ use Rattle.text.specs.declared.line.SignedLine.the-variants as SL
 use Rattle.text.specs.Line.{lineOf, signedLine}
 use Rattle.text.specs.Decimal.{readSigned}
 use Rattle.text.specs.Answer.{valueAt, signedLineAt}
-use Rattle.text.proofs.Answers.{line-malformed, found-le, found-within, line-none, line-some, next-is, signed-none, signed-some}
+use Rattle.text.proofs.Answers.{
+  line-malformed,
+  found-le,
+  found-within,
+  line-none,
+  line-some,
+  next-is,
+  signed-none,
+  signed-some,
+}
 use Rattle.text.proofs.line.read_signed_line.Statement.{statement}
 use Rattle.text.proofs.line.read_signed_line.Tie as tie
 

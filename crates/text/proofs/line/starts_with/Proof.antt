@@ -1,4 +1,5 @@
--- `text::line::starts_with` meets its contract. The loop's invariant: s begins with key where the rest of s begins with the rest of key.
+-- `text::line::starts_with` meets its contract. The loop's invariant: s begins with key where the rest of s begins
+-- with the rest of key.
 use mathlib.Core.Path.{_≡_, refl, sym, ap, ap₂, _∙_}
 use mathlib.Core.Bool.{Bool}
 use mathlib.Core.List.{List, _∷_}

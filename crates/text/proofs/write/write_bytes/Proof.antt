@@ -1,4 +1,5 @@
--- `text::write::write_bytes` meets its contract. The loop's invariant: storing what is left of s gives what storing all of it gives.
+-- `text::write::write_bytes` meets its contract. The loop's invariant: storing what is left of s gives what storing
+-- all of it gives.
 use mathlib.Core.Path.{_≡_, refl, sym, ap, _∙_}
 use mathlib.Core.List.{List}
 use Prim.Native.Nat.{ℕ, _+_, _-_, _≤_}

@@ -1,4 +1,5 @@
--- `text::write::write_decimal` meets its contract. The loop's invariant: the digits of rest in front of those that are stored are the digits of n, and there is room for them.
+-- `text::write::write_decimal` meets its contract. The loop's invariant: the digits of rest in front of those that
+-- are stored are the digits of n, and there is room for them.
 use mathlib.Core.Path.{_≡_, refl, sym, ap, _∙_, subst}
 use mathlib.Core.List.{List, _∷_}
 use Prim.Native.Nat.{ℕ, _+_, _-_, _/_, _%_, _^_, _≤_, _<_}

@@ -1,4 +1,4 @@
--- `gauss::limits::is_product` meets its contract: len is a times b just where a divides it and the quotient is b.
+-- `gauss::checks::is_product` meets its contract: len is a times b just where a divides it and the quotient is b.
 use mathlib.Core.Path.{_≡_, refl, sym, ap, _∙_}
 use mathlib.Core.Bool.{Bool, true, false}
 use Prim.Native.Nat.{ℕ, _*_, _/_, _%_, _<_}
@@ -7,8 +7,8 @@ use native.Mathlib.Omega.{arith}
 use lib.Dec.{eqb}
 use borrow.Author.Tests.{eqb-true, eqb-false, eq-eqb, ne-eqb}
 use borrow.Author.Needs.{needs}
-use Rattle.gauss.proofs.limits.is_product.Statement.{statement}
-use Rattle.gauss.proofs.limits.is_product.Tie as tie
+use Rattle.gauss.proofs.checks.is_product.Statement.{statement}
+use Rattle.gauss.proofs.checks.is_product.Tie as tie
 
 -- two tests of numbers that hold together
 same-test : (m n p q : ℕ) → (m ≡ n → p ≡ q) → (p ≡ q → m ≡ n) → eqb m n ≡ eqb p q

@@ -1,4 +1,4 @@
--- `elimination::echelon::eliminate` meets its contract: the exchanged rows are what is then cleared.
+-- `elimination::echelon::eliminate_column` meets its contract: the exchanged rows are what is then cleared.
 use mathlib.Core.Path.{_≡_, sym, ap, _∙_}
 use mathlib.Core.List.{List, []}
 use Prim.Native.Nat.{ℕ, _*_, _≤_, _<_}
@@ -7,12 +7,14 @@ use native.Mathlib.Omega.{arith}
 use lib.ListN.{length, getD, set, length-set}
 use lib.Ieee.{Float}
 use denote.Ref.{now}
+use Rattle.status.specs.Limits.{maxOrder}
+use Rattle.elimination.specs.Rows.{maxWidth}
 use Rattle.matrix.specs.Rows.{rowsOf, flat, swapped}
 use Rattle.matrix.proofs.Laws.{length-rowsOf, rowsOf-flat, wide-rowsOf, wide-swapped}
 use Rattle.elimination.specs.Elimination.{clearBelow}
 use borrow.Author.Needs.{needs}
-use Rattle.elimination.proofs.echelon.eliminate.Statement.{statement}
-use Rattle.elimination.proofs.echelon.eliminate.Tie as tie
+use Rattle.elimination.proofs.echelon.eliminate_column.Statement.{statement}
+use Rattle.elimination.proofs.echelon.eliminate_column.Tie as tie
 
 swapped-rows : (w n h i : ℕ) (cells : List Float) → h < n → i < n → length cells ≡ n * w → rowsOf w n (flat (swapped h i (rowsOf w n cells))) ≡ swapped h i (rowsOf w n cells)
 swapped-rows w n h i cells lh li e =
@@ -37,7 +39,7 @@ cast-swap-rows-4 c = search needs
 swap-rows-requires : tie.Need-swap-rows-requires
 swap-rows-requires c κs =
     let s = c .before .before in
-    let e : s .args .n * s .args .w ≤ 100 * 108 = mul-le-mul (s .pre .0 .order) (s .pre .0 .wide) in
+    let e : s .args .n * s .args .w ≤ maxOrder * maxWidth = mul-le-mul (s .pre .0 .order) (s .pre .0 .wide) in
     (s .pre .0 .count, omega arith, s .pre .1, s .pre .2)
 
 clear-below-requires : tie.Need-clear-below-requires
@@ -55,8 +57,8 @@ returns c =
     ∙ ap (clearBelow (s .args .h) (s .args .k))
     (ap (rowsOf (s .args .w) (s .args .n)) (a .swap-rows .ensures) ∙ swapped-rows (s .args .w) (s .args .n) (s .args .h) (s .args .i) (now (s .args .cells)) (s .pre .1) (s .pre .2) (s .pre .0 .count))
 
-pub eliminate-spec : {M : Type 1} → statement M
-eliminate-spec =
+pub eliminate-column-spec : {M : Type 1} → statement M
+eliminate-column-spec =
     tie.close
     (tie.spec
     cast-swap-rows

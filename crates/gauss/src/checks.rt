@@ -3,7 +3,8 @@ ghost use mathlib.Core.Path.{_≡_};
 ghost use mathlib.Core.Bool.{_&&_};
 ghost use Prim.Native.Nat.{_*_, _≤_};
 ghost use lib.Dec.{eqb, leb};
-ghost use Rattle.gauss.specs.Solve.{needed, outputs, checked};
+ghost use Rattle.status.specs.Limits.{maxOrder, maxColumns};
+ghost use Rattle.gauss.specs.Solve.{needed, outputs, statusBy};
 
 // Whether `len` is a times b, whatever the two.
 fn is_product(len: usize, a: usize, b: usize) -> bool
@@ -25,16 +26,9 @@ fn sides_fit(left: usize, right: usize, n: usize, c: usize) -> bool
     is_product(left, n, n) & is_product(right, n, c)
 }
 
-// Whether the order is 1 to 100 and the number of right columns 1 to 8.
-fn within_limits(n: usize, c: usize) -> bool
-    ensures { λ r. ⌜ r ≡ (leb 1 n && leb n 100 && leb 1 c && leb c 8) ⌝ }
-{
-    (1 <= n) & (n <= 100) & (1 <= c) & (c <= 8)
-}
-
 // Whether the workspace and the output are long enough.
 fn has_room(n: usize, c: usize, workspace: usize, solution: usize) -> bool
-    requires { ⌜ (n ≤ 100) × (c ≤ 8) ⌝ }
+    requires { ⌜ (n ≤ maxOrder) × (c ≤ maxColumns) ⌝ }
     ensures { λ r. ⌜ r ≡ (leb (needed n c) workspace && leb (outputs n c) solution) ⌝ }
 {
     let outputs = n * c;
@@ -42,7 +36,7 @@ fn has_room(n: usize, c: usize, workspace: usize, solution: usize) -> bool
     (needed <= workspace) & (outputs <= solution)
 }
 
-// The number of the first check that fails, or 0.
+// The status of a call: 1, 2, 3 or 0. What room a call needs is worked out for numbers within the limits alone.
 pub(crate) fn check(
     left: usize,
     right: usize,
@@ -51,16 +45,13 @@ pub(crate) fn check(
     workspace: usize,
     solution: usize,
 ) -> u8
-    ensures { λ r. ⌜ r ≡ checked left right n c workspace solution ⌝ }
+    ensures { λ r. ⌜ r ≡ statusBy left right n c workspace solution ⌝ }
 {
-    if !sides_fit(left, right, n, c) {
-        return 1;
+    let lengths = sides_fit(left, right, n, c);
+    let limits = status::system_limits(n, c);
+    if !limits {
+        return status::first_failing(lengths, limits, true, status::ACCEPTED, true, true);
     }
-    if !within_limits(n, c) {
-        return 2;
-    }
-    if !has_room(n, c, workspace, solution) {
-        return 3;
-    }
-    0
+    let room = has_room(n, c, workspace, solution);
+    status::first_failing(lengths, limits, room, status::ACCEPTED, true, true)
 }

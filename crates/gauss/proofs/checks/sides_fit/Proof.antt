@@ -1,8 +1,8 @@
--- `gauss::limits::sides_fit` meets its contract, from the two products'.
+-- `gauss::checks::sides_fit` meets its contract, from the two products'.
 use mathlib.Core.Path.{refl}
 use borrow.Author.Needs.{needs}
-use Rattle.gauss.proofs.limits.sides_fit.Statement.{statement}
-use Rattle.gauss.proofs.limits.sides_fit.Tie as tie
+use Rattle.gauss.proofs.checks.sides_fit.Statement.{statement}
+use Rattle.gauss.proofs.checks.sides_fit.Tie as tie
 
 is-product-requires : tie.Need-is-product-requires
 is-product-requires c κs = search needs

@@ -1,0 +1,56 @@
+-- The workspace of a fit of order D (document 01's work room): how many cells it has, and where the normal equations
+-- lie in it. No other crate knows. Definitions only.
+use mathlib.Core.Path.{_≡_}
+use mathlib.Core.List.{List, _++_}
+use Prim.Native.Nat.{ℕ, _+_, _*_, _≤_}
+use lib.ListN.{length, take, drop, replicate}
+use lib.Ieee.{Float}
+use denote.Ref.{now}
+use Rattle.params.specs.Slice.{Change, change, Slice}
+use Rattle.status.specs.Limits.{maxOrder}
+use Rattle.matrix.specs.Rows.{rowsOf, flat}
+use Rattle.float.specs.Number.{zero64}
+
+abbrev pub workspaceCells : ℕ → ℕ
+workspaceCells D = 2 * D * D + 2 * D
+
+pub record Workspace (D : ℕ) (cells : List Float) : Type 0 where
+  pub order : D ≤ maxOrder
+  pub count : length cells ≡ workspaceCells D
+
+-- ---- its two halves: rows that the elimination works on, and the equations
+
+-- the cells of D augmented rows
+abbrev pub systemLength : ℕ → ℕ
+systemLength D = D * (D + 1)
+
+-- the equations that it holds, D rows [cov | b]
+abbrev pub equations : ℕ → List Float → List (List Float)
+equations D cells = rowsOf (D + 1) D (drop (systemLength D) cells)
+
+-- the workspace with these equations in place of its own
+unfoldable pub withEquations : ℕ → (rows : List (List Float)) (cells : List Float) → List Float
+withEquations D rows cells = take (systemLength D) cells ++ flat rows
+
+-- ---- what a fit leaves in it
+
+-- as a fit begins and as it ends: +0.0
+abbrev pub cleared : List Float → List Float
+cleared cells = replicate (length cells) zero64
+
+-- +0.0 but for these equations
+abbrev pub holding : ℕ → (rows : List (List Float)) → List Float
+holding D rows = withEquations D rows (replicate (workspaceCells D) zero64)
+
+-- ---- what a fit writes: the workspace, and the coefficients
+
+pub record FitSlices : Type 0 where
+  pub workspace : List Float
+  pub coefficients : List Float
+
+-- as a function's parameters hold them, in an `ensures`
+abbrev pub fitSlices : (workspace beta : Slice Float) → Change FitSlices
+fitSlices workspace beta =
+    change
+    (record { workspace = now (workspace .entry); coefficients = now (beta .entry) })
+    (record { workspace = now (workspace .exit); coefficients = now (beta .exit) })
