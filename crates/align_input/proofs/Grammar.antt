@@ -67,7 +67,8 @@ abbrev parts : TextRow → Parts
 parts r = (((((tt, r .file), r .peptide), r .label), r .q), r .rt)
 
 abbrev Ok : TextRow → Type 0
-Ok r = (r .file ≤ maxU32) × ((r .peptide ≤ maxU32) × ((mag (r .label) < 2 ^ 31) × ((r .q < 16 ^ 8) × ((r .rt < 16 ^ 8) × None))))
+Ok r =
+    (r .file ≤ maxU32) × ((r .peptide ≤ maxU32) × ((mag (r .label) < 2 ^ 31) × ((r .q < 16 ^ 8) × ((r .rt < 16 ^ 8) × None))))
 
 row-continues : Continues {C = None} (λ u. rowRead) (λ r. tt) rowText Ok (λ s. None)
 unfolding rowRead rowText flatten lineOf
@@ -99,21 +100,26 @@ unfolding rowsFrom
 rows-empty zero = refl
 rows-empty (suc k) = refl
 
-pub rows-step : (k : ℕ) (s : List ℕ) → 1 ≤ length s → rowsFrom (suc k) s ≡ onRow (rowRead s) (λ r n. consRow r (rowsFrom k (drop n s)))
+pub rows-step : (k : ℕ) (s : List ℕ) → 1 ≤ length s
+    → rowsFrom (suc k) s ≡ onRow (rowRead s) (λ r n. consRow r (rowsFrom k (drop n s)))
 unfolding rowsFrom
 rows-step k [] h = absurd (omega arith)
 rows-step k (c ∷ s) h = refl
 
-pub rows-row : (k : ℕ) (r : TextRow) (n : ℕ) (s : List ℕ) → 1 ≤ length s → rowRead s ≡ value r n → rowsFrom (suc k) s ≡ consRow r (rowsFrom k (drop n s))
-rows-row k r n s h e = rows-step k s h ∙ ap (λ (x : Read TextRow). onRow x (λ r n. consRow r (rowsFrom k (drop n s)))) e
+pub rows-row : (k : ℕ) (r : TextRow) (n : ℕ) (s : List ℕ) → 1 ≤ length s → rowRead s ≡ value r n
+    → rowsFrom (suc k) s ≡ consRow r (rowsFrom k (drop n s))
+rows-row k r n s h e =
+    rows-step k s h ∙ ap (λ (x : Read TextRow). onRow x (λ r n. consRow r (rowsFrom k (drop n s)))) e
 
 abbrev rowsText : List TextRow → List ℕ
 rowsText rows = flatten (map rowText rows)
 
-rows-complete : (rows : List TextRow) → Each RowInRange rows → (k : ℕ) → length (rowsText rows) ≤ k → rowsFrom k (rowsText rows) ≡ some rows
+rows-complete : (rows : List TextRow) → Each RowInRange rows → (k : ℕ) → length (rowsText rows) ≤ k
+    → rowsFrom k (rowsText rows) ≡ some rows
 unfolding flatten
 rows-complete [] o k h = rows-empty k
-rows-complete (r ∷ rows) (cons o os) zero h = absurd (omega (arith, row-some r, length-append (rowText r) (rowsText rows)))
+rows-complete (r ∷ rows) (cons o os) zero h =
+    absurd (omega (arith, row-some r, length-append (rowText r) (rowsText rows)))
 rows-complete (r ∷ rows) (cons o os) (suc k) h =
     let n = length (rowText r) in
     let l = length-append (rowText r) (rowsText rows) in
@@ -129,19 +135,24 @@ right-nil : (rows : List TextRow) → some [] ≡ some rows → Right [] rows
 unfolding flatten
 right-nil rows h = let e : [] ≡ rows = cc in subst (λ (rs : List TextRow). Right [] rs) e (nil, refl)
 
-right-cons : (r : TextRow) (s : List ℕ) (n : ℕ) (rest rows : List TextRow) → rowRead s ≡ value r n → Right (drop n s) rest → some (r ∷ rest) ≡ some rows → Right s rows
+right-cons : (r : TextRow) (s : List ℕ) (n : ℕ) (rest rows : List TextRow) → rowRead s ≡ value r n
+    → Right (drop n s) rest → some (r ∷ rest) ≡ some rows → Right s rows
 unfolding flatten
 right-cons r s n rest rows h w e =
     let x = row-reads .sound r n s h in
     let p : r ∷ rest ≡ rows = cc in
-    subst (λ (rs : List TextRow). Right s rs) p (cons (x .0) (w .0), x .2 ∙ ap (λ (t : List ℕ). rowText r ++ t) (w .1))
+    subst (λ (rs : List TextRow). Right s rs) p
+    (cons (x .0) (w .0), x .2 ∙ ap (λ (t : List ℕ). rowText r ++ t) (w .1))
 
-module _ (k : ℕ) (s : List ℕ) (rows : List TextRow) (later : (t : List ℕ) (rs : List TextRow) → rowsFrom k t ≡ some rs → Right t rs) where
-  rows-next : (r : TextRow) (n : ℕ) → rowRead s ≡ value r n → (o : Option (List TextRow)) → rowsFrom k (drop n s) ≡ o → consRow r o ≡ some rows → Right s rows
+module _ (k : ℕ) (s : List ℕ) (rows : List TextRow)
+    (later : (t : List ℕ) (rs : List TextRow) → rowsFrom k t ≡ some rs → Right t rs) where
+  rows-next : (r : TextRow) (n : ℕ) → rowRead s ≡ value r n → (o : Option (List TextRow))
+      → rowsFrom k (drop n s) ≡ o → consRow r o ≡ some rows → Right s rows
   rows-next r n e none f g = some-none (some rows) rows refl (sym g)
   rows-next r n e (some rest) f g = right-cons r s n rest rows e (later (drop n s) rest f) g
 
-  rows-first : (x : Read TextRow) → rowRead s ≡ x → onRow x (λ r n. consRow r (rowsFrom k (drop n s))) ≡ some rows → Right s rows
+  rows-first : (x : Read TextRow) → rowRead s ≡ x
+      → onRow x (λ r n. consRow r (rowsFrom k (drop n s))) ≡ some rows → Right s rows
   rows-first malformed e g = some-none (some rows) rows refl (sym g)
   rows-first (value r n) e g = rows-next r n e (rowsFrom k (drop n s)) refl g
 
@@ -150,7 +161,8 @@ unfolding rowsFrom
 rows-sound zero [] rows h = right-nil rows h
 rows-sound zero (c ∷ s) rows h = some-none (some rows) rows refl (sym h)
 rows-sound (suc k) [] rows h = right-nil rows h
-rows-sound (suc k) (c ∷ s) rows h = rows-first k (c ∷ s) rows (λ t rs. rows-sound k t rs) (rowRead (c ∷ s)) refl h
+rows-sound (suc k) (c ∷ s) rows h =
+    rows-first k (c ∷ s) rows (λ t rs. rows-sound k t rs) (rowRead (c ∷ s)) refl h
 
 rows-of-sound : (s : List ℕ) (rows : List TextRow) → rowsOf s ≡ some rows → Right s rows
 unfolding rowsOf
@@ -171,10 +183,15 @@ head-continues =
     (give-continues (λ c. record { files = c .0 .1; peptides = c .1 }) (λ h. ((tt, h .files), h .peptides)) (λ h. refl) (λ c. refl)))
 
 head-reads : Reads headRead headText HeadOk
-head-reads = record { complete = λ h s o. head-continues .complete h s o tt; sound = λ h n s e. let w = head-continues .sound tt h n s e in (w .1, w .3, w .4) }
+head-reads =
+    record {
+      complete = λ h s o. head-continues .complete h s o tt;
+      sound = λ h n s e. let w = head-continues .sound tt h n s e in (w .1, w .3, w .4);
+    }
 
 -- the text of an input: that of its head and then that of its rows
-render-is : (d : Input) → render d ≡ headText (record { files = d .files; peptides = d .peptides }) ++ rowsText (d .rows)
+render-is : (d : Input)
+    → render d ≡ headText (record { files = d .files; peptides = d .peptides }) ++ rowsText (d .rows)
 unfolding render headText flatten
 render-is d =
     let a = line filesKey (decimalOf (d .files)) in
@@ -193,19 +210,23 @@ module _ (d : Input) (o : InRange d) (l : length (render d) ≤ maxBytes) where
   whole : afterHead (headRead (headText h ++ rest)) (headText h ++ rest) ≡ some d
   unfolding rowsOf
   whole =
-      ap (λ (x : Read Head). afterHead x (headText h ++ rest)) (head-reads .complete h rest (o .files, (o .peptides, tt)))
+      ap (λ (x : Read Head). afterHead x (headText h ++ rest))
+      (head-reads .complete h rest (o .files, (o .peptides, tt)))
       ∙ ap (λ (t : List ℕ). withRows h (rowsOf t)) (drop-append-seam (headText h) rest)
       ∙ ap (withRows h) (rows-complete (d .rows) (o .rows) (length rest) (le-refl (length rest)))
 
   pub parse-complete : parse (render d) ≡ some d
   unfolding parse
-  parse-complete = simp (le-leb (length (render d)) maxBytes l) (subst (λ (t : List ℕ). afterHead (headRead t) t ≡ some d) (sym (render-is d)) whole)
+  parse-complete =
+      simp (le-leb (length (render d)) maxBytes l)
+      (subst (λ (t : List ℕ). afterHead (headRead t) t ≡ some d) (sym (render-is d)) whole)
 
 module _ (t : List ℕ) (d : Input) where
   abbrev Whole : Type 0
   Whole = (t ≡ render d) × InRange d
 
-  rows-whole : (h : Head) (n : ℕ) → headRead t ≡ value h n → (o : Option (List TextRow)) → rowsOf (drop n t) ≡ o → withRows h o ≡ some d → Whole
+  rows-whole : (h : Head) (n : ℕ) → headRead t ≡ value h n → (o : Option (List TextRow))
+      → rowsOf (drop n t) ≡ o → withRows h o ≡ some d → Whole
   rows-whole h n e none f g = some-none (some d) d refl (sym g)
   rows-whole h n e (some rows) f g =
       let w = head-reads .sound h n t e in

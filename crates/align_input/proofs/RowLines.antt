@@ -52,50 +52,84 @@ slide at n (value r m) = ap (Row r) (sym (add-assoc at n m))
 slide at n malformed = refl
 
 -- a line of eight hex digits at a place gives a pattern of 32 bits
-pub pattern-lt : (t key : List ℕ) (at v next : ℕ) → lineOf key ≡ none → HL.Value v next ≡ hexLineAt at (hexLine key 8 (drop at t)) → v < 2 ^ 32
+pub pattern-lt : (t key : List ℕ) (at v next : ℕ) → lineOf key ≡ none
+    → HL.Value v next ≡ hexLineAt at (hexLine key 8 (drop at t)) → v < 2 ^ 32
 pattern-lt t key at v next k h =
     let w = hex-line-some at v next (hexLine key 8 (drop at t)) h in
     hex-line-reads key k 8 (omega arith) (omega arith) .sound v (w .0) (drop at t) (w .1) .0
 
 module _ (t : List ℕ) (at : ℕ) where
-  pub bad1 : DL.Malformed ≡ decimalLineAt at (decimalLine fileKey maxU32 (drop at t)) → rowAt at (rowRead (drop at t)) ≡ Malformed
+  pub bad1 : DL.Malformed ≡ decimalLineAt at (decimalLine fileKey maxU32 (drop at t))
+      → rowAt at (rowRead (drop at t)) ≡ Malformed
   unfolding rowRead
-  bad1 h = chain-none rowAt slide t (decimalLine fileKey maxU32) rest1 at (decimal-line-none at (decimalLine fileKey maxU32 (drop at t)) h)
+  bad1 h =
+      chain-none rowAt slide t (decimalLine fileKey maxU32) rest1 at
+      (decimal-line-none at (decimalLine fileKey maxU32 (drop at t)) h)
 
   module _ (f at1 : ℕ) (h1 : DL.Value f at1 ≡ decimalLineAt at (decimalLine fileKey maxU32 (drop at t))) where
     after1 : rowAt at (rowRead (drop at t)) ≡ rowAt at1 (rest1 f (drop at1 t))
     unfolding rowRead
-    after1 = chain-some rowAt slide t (decimalLine fileKey maxU32) rest1 at f at1 (decimal-line-some at f at1 (decimalLine fileKey maxU32 (drop at t)) h1)
+    after1 =
+        chain-some rowAt slide t (decimalLine fileKey maxU32) rest1 at f at1
+        (decimal-line-some at f at1 (decimalLine fileKey maxU32 (drop at t)) h1)
 
-    pub bad2 : DL.Malformed ≡ decimalLineAt at1 (decimalLine peptideKey maxU32 (drop at1 t)) → rowAt at (rowRead (drop at t)) ≡ Malformed
-    bad2 h = after1 ∙ chain-none rowAt slide t (decimalLine peptideKey maxU32) (rest2 f) at1 (decimal-line-none at1 (decimalLine peptideKey maxU32 (drop at1 t)) h)
+    pub bad2 : DL.Malformed ≡ decimalLineAt at1 (decimalLine peptideKey maxU32 (drop at1 t))
+        → rowAt at (rowRead (drop at t)) ≡ Malformed
+    bad2 h =
+        after1
+        ∙ chain-none rowAt slide t (decimalLine peptideKey maxU32) (rest2 f) at1
+        (decimal-line-none at1 (decimalLine peptideKey maxU32 (drop at1 t)) h)
 
-    module _ (p at2 : ℕ) (h2 : DL.Value p at2 ≡ decimalLineAt at1 (decimalLine peptideKey maxU32 (drop at1 t))) where
+    module _ (p at2 : ℕ)
+        (h2 : DL.Value p at2 ≡ decimalLineAt at1 (decimalLine peptideKey maxU32 (drop at1 t))) where
       after2 : rowAt at (rowRead (drop at t)) ≡ rowAt at2 (rest2 f p (drop at2 t))
-      after2 = after1 ∙ chain-some rowAt slide t (decimalLine peptideKey maxU32) (rest2 f) at1 p at2 (decimal-line-some at1 p at2 (decimalLine peptideKey maxU32 (drop at1 t)) h2)
+      after2 =
+          after1
+          ∙ chain-some rowAt slide t (decimalLine peptideKey maxU32) (rest2 f) at1 p at2
+          (decimal-line-some at1 p at2 (decimalLine peptideKey maxU32 (drop at1 t)) h2)
 
-      pub bad3 : SL.Malformed ≡ signedLineAt at2 (signedLine labelKey (drop at2 t)) → rowAt at (rowRead (drop at t)) ≡ Malformed
-      bad3 h = after2 ∙ chain-none rowAt slide t (signedLine labelKey) (rest3 f p) at2 (signed-line-none at2 (signedLine labelKey (drop at2 t)) h)
+      pub bad3 : SL.Malformed ≡ signedLineAt at2 (signedLine labelKey (drop at2 t))
+          → rowAt at (rowRead (drop at t)) ≡ Malformed
+      bad3 h =
+          after2
+          ∙ chain-none rowAt slide t (signedLine labelKey) (rest3 f p) at2
+          (signed-line-none at2 (signedLine labelKey (drop at2 t)) h)
 
       module _ (l : ℤ) (at3 : ℕ) (h3 : SL.Value l at3 ≡ signedLineAt at2 (signedLine labelKey (drop at2 t))) where
         after3 : rowAt at (rowRead (drop at t)) ≡ rowAt at3 (rest3 f p l (drop at3 t))
-        after3 = after2 ∙ chain-some rowAt slide t (signedLine labelKey) (rest3 f p) at2 l at3 (signed-line-some at2 l at3 (signedLine labelKey (drop at2 t)) h3)
+        after3 =
+            after2
+            ∙ chain-some rowAt slide t (signedLine labelKey) (rest3 f p) at2 l at3
+            (signed-line-some at2 l at3 (signedLine labelKey (drop at2 t)) h3)
 
-        pub bad4 : HL.Malformed ≡ hexLineAt at3 (hexLine qKey 8 (drop at3 t)) → rowAt at (rowRead (drop at t)) ≡ Malformed
-        bad4 h = after3 ∙ chain-none rowAt slide t (hexLine qKey 8) (rest4 f p l) at3 (hex-line-none at3 (hexLine qKey 8 (drop at3 t)) h)
+        pub bad4 : HL.Malformed ≡ hexLineAt at3 (hexLine qKey 8 (drop at3 t))
+            → rowAt at (rowRead (drop at t)) ≡ Malformed
+        bad4 h =
+            after3
+            ∙ chain-none rowAt slide t (hexLine qKey 8) (rest4 f p l) at3
+            (hex-line-none at3 (hexLine qKey 8 (drop at3 t)) h)
 
         module _ (q at4 : ℕ) (h4 : HL.Value q at4 ≡ hexLineAt at3 (hexLine qKey 8 (drop at3 t))) where
           after4 : rowAt at (rowRead (drop at t)) ≡ rowAt at4 (rest4 f p l q (drop at4 t))
-          after4 = after3 ∙ chain-some rowAt slide t (hexLine qKey 8) (rest4 f p l) at3 q at4 (hex-line-some at3 q at4 (hexLine qKey 8 (drop at3 t)) h4)
+          after4 =
+              after3
+              ∙ chain-some rowAt slide t (hexLine qKey 8) (rest4 f p l) at3 q at4
+              (hex-line-some at3 q at4 (hexLine qKey 8 (drop at3 t)) h4)
 
-          pub bad5 : HL.Malformed ≡ hexLineAt at4 (hexLine rtKey 8 (drop at4 t)) → rowAt at (rowRead (drop at t)) ≡ Malformed
-          bad5 h = after4 ∙ chain-none rowAt slide t (hexLine rtKey 8) (rest5 f p l q) at4 (hex-line-none at4 (hexLine rtKey 8 (drop at4 t)) h)
+          pub bad5 : HL.Malformed ≡ hexLineAt at4 (hexLine rtKey 8 (drop at4 t))
+              → rowAt at (rowRead (drop at t)) ≡ Malformed
+          bad5 h =
+              after4
+              ∙ chain-none rowAt slide t (hexLine rtKey 8) (rest5 f p l q) at4
+              (hex-line-none at4 (hexLine rtKey 8 (drop at4 t)) h)
 
           pub row-whole : (r at5 : ℕ) → HL.Value r at5 ≡ hexLineAt at4 (hexLine rtKey 8 (drop at4 t))
-              → rowAt at (rowRead (drop at t)) ≡ Row (record { file = f; peptide = p; label = l; q = q; rt = r }) at5
+              → rowAt at (rowRead (drop at t))
+              ≡ Row (record { file = f; peptide = p; label = l; q = q; rt = r }) at5
           row-whole r at5 h5 =
               after4
-              ∙ chain-some rowAt slide t (hexLine rtKey 8) (rest5 f p l q) at4 r at5 (hex-line-some at4 r at5 (hexLine rtKey 8 (drop at4 t)) h5)
+              ∙ chain-some rowAt slide t (hexLine rtKey 8) (rest5 f p l q) at4 r at5
+              (hex-line-some at4 r at5 (hexLine rtKey 8 (drop at4 t)) h5)
               ∙ ap (Row (record { file = f; peptide = p; label = l; q = q; rt = r })) (add-zero at5)
 
 -- ---- the two lines before the rows
@@ -110,20 +144,32 @@ head-slide at n (value h m) = ap (H.Head (h .files) (h .peptides)) (sym (add-ass
 head-slide at n malformed = refl
 
 module _ (t : List ℕ) where
-  pub head-bad1 : DL.Malformed ≡ decimalLineAt 0 (decimalLine filesKey maxU32 t) → headAt 0 (headRead t) ≡ H.Malformed
+  pub head-bad1 : DL.Malformed ≡ decimalLineAt 0 (decimalLine filesKey maxU32 t)
+      → headAt 0 (headRead t) ≡ H.Malformed
   unfolding headRead
-  head-bad1 h = chain-none headAt head-slide t (decimalLine filesKey maxU32) second 0 (decimal-line-none 0 (decimalLine filesKey maxU32 t) h)
+  head-bad1 h =
+      chain-none headAt head-slide t (decimalLine filesKey maxU32) second 0
+      (decimal-line-none 0 (decimalLine filesKey maxU32 t) h)
 
   module _ (f at1 : ℕ) (h1 : DL.Value f at1 ≡ decimalLineAt 0 (decimalLine filesKey maxU32 t)) where
     head1 : headAt 0 (headRead t) ≡ headAt at1 (second f (drop at1 t))
     unfolding headRead
-    head1 = chain-some headAt head-slide t (decimalLine filesKey maxU32) second 0 f at1 (decimal-line-some 0 f at1 (decimalLine filesKey maxU32 t) h1)
+    head1 =
+        chain-some headAt head-slide t (decimalLine filesKey maxU32) second 0 f at1
+        (decimal-line-some 0 f at1 (decimalLine filesKey maxU32 t) h1)
 
-    pub head-bad2 : DL.Malformed ≡ decimalLineAt at1 (decimalLine peptidesKey maxU32 (drop at1 t)) → headAt 0 (headRead t) ≡ H.Malformed
-    head-bad2 h = head1 ∙ chain-none headAt head-slide t (decimalLine peptidesKey maxU32) (last f) at1 (decimal-line-none at1 (decimalLine peptidesKey maxU32 (drop at1 t)) h)
+    pub head-bad2 : DL.Malformed ≡ decimalLineAt at1 (decimalLine peptidesKey maxU32 (drop at1 t))
+        → headAt 0 (headRead t) ≡ H.Malformed
+    head-bad2 h =
+        head1
+        ∙ chain-none headAt head-slide t (decimalLine peptidesKey maxU32) (last f) at1
+        (decimal-line-none at1 (decimalLine peptidesKey maxU32 (drop at1 t)) h)
 
-    pub head-whole : (p at2 : ℕ) → DL.Value p at2 ≡ decimalLineAt at1 (decimalLine peptidesKey maxU32 (drop at1 t)) → headAt 0 (headRead t) ≡ H.Head f p at2
+    pub head-whole : (p at2 : ℕ)
+        → DL.Value p at2 ≡ decimalLineAt at1 (decimalLine peptidesKey maxU32 (drop at1 t))
+        → headAt 0 (headRead t) ≡ H.Head f p at2
     head-whole p at2 h2 =
         head1
-        ∙ chain-some headAt head-slide t (decimalLine peptidesKey maxU32) (last f) at1 p at2 (decimal-line-some at1 p at2 (decimalLine peptidesKey maxU32 (drop at1 t)) h2)
+        ∙ chain-some headAt head-slide t (decimalLine peptidesKey maxU32) (last f) at1 p at2
+        (decimal-line-some at1 p at2 (decimalLine peptidesKey maxU32 (drop at1 t)) h2)
         ∙ ap (H.Head f p) (add-zero at2)

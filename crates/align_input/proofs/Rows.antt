@@ -36,8 +36,11 @@ row-takes : (r : TextRow) (n : ℕ) (s : List ℕ) → rowRead s ≡ value r n �
 row-takes r n s h = omega (arith, row-reads .sound r n s h .1, row-some r)
 
 -- ---- k needs only be large enough
-rows-later : (k j : ℕ) (s : List ℕ) → ((t : List ℕ) → length t ≤ k → length t ≤ j → rowsFrom k t ≡ rowsFrom j t) → length s ≤ suc k → length s ≤ suc j
-    → (x : Read TextRow) → rowRead s ≡ x → onRow x (λ r n. consRow r (rowsFrom k (drop n s))) ≡ onRow x (λ r n. consRow r (rowsFrom j (drop n s)))
+rows-later : (k j : ℕ) (s : List ℕ)
+    → ((t : List ℕ) → length t ≤ k → length t ≤ j → rowsFrom k t ≡ rowsFrom j t) → length s ≤ suc k
+    → length s ≤ suc j
+    → (x : Read TextRow) → rowRead s ≡ x
+    → onRow x (λ r n. consRow r (rowsFrom k (drop n s))) ≡ onRow x (λ r n. consRow r (rowsFrom j (drop n s)))
 rows-later k j s later h l malformed e = refl
 rows-later k j s later h l (value r n) e =
     let p = row-takes r n s e in
@@ -54,7 +57,8 @@ rows-any (suc k) (suc j) (c ∷ s) h l =
     ∙ sym (rows-step j (c ∷ s) (omega arith))
 
 -- ---- a row and then the others
-rows-of-step : (s : List ℕ) → 1 ≤ length s → (k : ℕ) → length s ≡ suc k → rowsOf s ≡ onRow (rowRead s) (λ r n. consRow r (rowsFrom k (drop n s)))
+rows-of-step : (s : List ℕ) → 1 ≤ length s → (k : ℕ) → length s ≡ suc k
+    → rowsOf s ≡ onRow (rowRead s) (λ r n. consRow r (rowsFrom k (drop n s)))
 unfolding rowsOf
 rows-of-step s h k e = ap (λ (j : ℕ). rowsFrom j s) e ∙ rows-step k s h
 
@@ -63,9 +67,11 @@ rows-bad s h e = go (length s) refl
   where
     go : (m : ℕ) → length s ≡ m → rowsOf s ≡ none
     go zero p = absurd (omega arith)
-    go (suc k) p = rows-of-step s h k p ∙ ap (λ (x : Read TextRow). onRow x (λ r n. consRow r (rowsFrom k (drop n s)))) e
+    go (suc k) p =
+        rows-of-step s h k p ∙ ap (λ (x : Read TextRow). onRow x (λ r n. consRow r (rowsFrom k (drop n s)))) e
 
-pub rows-more : (s : List ℕ) → 1 ≤ length s → (r : TextRow) (n : ℕ) → rowRead s ≡ value r n → rowsOf s ≡ consRow r (rowsOf (drop n s))
+pub rows-more : (s : List ℕ) → 1 ≤ length s → (r : TextRow) (n : ℕ) → rowRead s ≡ value r n
+    → rowsOf s ≡ consRow r (rowsOf (drop n s))
 unfolding rowsOf
 rows-more s h r n e = go (length s) refl
   where
@@ -75,10 +81,12 @@ rows-more s h r n e = go (length s) refl
         let q = row-takes r n s e in
         rows-of-step s h k p
         ∙ ap (λ (x : Read TextRow). onRow x (λ r n. consRow r (rowsFrom k (drop n s)))) e
-        ∙ ap (consRow r) (rows-any k (length (drop n s)) (drop n s) (rw length-drop (omega arith)) (le-refl (length (drop n s))))
+        ∙ ap (consRow r)
+        (rows-any k (length (drop n s)) (drop n s) (rw length-drop (omega arith)) (le-refl (length (drop n s))))
 
 -- ---- the loop: the number of rows, and the columns, from a place of the text on
-pub place-row : (at end : ℕ) (r : TextRow) (x : Read TextRow) → Row r end ≡ rowAt at x → (n : ℕ) × (x ≡ value r n) × (end ≡ at + n)
+pub place-row : (at end : ℕ) (r : TextRow) (x : Read TextRow) → Row r end ≡ rowAt at x
+    → (n : ℕ) × (x ≡ value r n) × (end ≡ at + n)
 place-row at end r (value w n) h = let e : w ≡ r = cc in (n, ap (λ (y : TextRow). value y n) e, (cc))
 place-row at end r malformed h = let z : _≡_ {A = ℕ} 0 1 = cc in absurd (omega arith)
 
@@ -95,11 +103,14 @@ abbrev pub storing : Columns → ℕ → Option (List TextRow) → Option Column
 storing c i none = none
 storing c i (some rows) = some (stored c i rows)
 
-storing-cons : (c : Columns) (i : ℕ) (r : TextRow) (o : Option (List TextRow)) → storing c i (consRow r o) ≡ storing (storedRow c i r) (i + 1) o
+storing-cons : (c : Columns) (i : ℕ) (r : TextRow) (o : Option (List TextRow))
+    → storing c i (consRow r o) ≡ storing (storedRow c i r) (i + 1) o
 storing-cons c i r none = refl
 storing-cons c i r (some rows) = ap (λ (k : ℕ). some (stored (storedRow c i r) k rows)) (sym (add-one i))
 
-pub columns-eq : {f f′ p p′ : List ℕ} {l l′ : List ℤ} {q q′ t t′ : List Float} → f ≡ f′ → p ≡ p′ → l ≡ l′ → q ≡ q′ → t ≡ t′ → columns f p l q t ≡ columns f′ p′ l′ q′ t′
+pub columns-eq : {f f′ p p′ : List ℕ} {l l′ : List ℤ} {q q′ t t′ : List Float} → f ≡ f′
+    → p ≡ p′ → l ≡ l′ → q ≡ q′ → t ≡ t′
+    → columns f p l q t ≡ columns f′ p′ l′ q′ t′
 columns-eq {f} {f′} {p} {p′} {l} {l′} {q} {q′} {t} {t′} a b c d e =
     ap (λ (x : List ℕ). columns x p l q t) a
     ∙ ap (λ (x : List ℕ). columns f′ x l q t) b
@@ -133,12 +144,14 @@ module _ (t : List ℕ) (at : ℕ) (h : at < length t) where
     turn-rows : rowsOf (drop at t) ≡ consRow r (rowsOf (drop end t))
     turn-rows =
         rows-more (drop at t) some-left r (taken .0) (taken .1)
-        ∙ ap (λ (s : List ℕ). consRow r (rowsOf s)) (drop-drop (taken .0) at t ∙ ap (λ (k : ℕ). drop k t) (sym (taken .2)))
+        ∙ ap (λ (s : List ℕ). consRow r (rowsOf s))
+        (drop-drop (taken .0) at t ∙ ap (λ (k : ℕ). drop k t) (sym (taken .2)))
 
     pub turn-count : (i : ℕ) → countFrom i (rowsOf (drop at t)) ≡ countFrom (i + 1) (rowsOf (drop end t))
     turn-count i = ap (countFrom i) turn-rows ∙ count-cons i r (rowsOf (drop end t))
 
-    pub turn-columns : (c : Columns) (i : ℕ) → storing c i (rowsOf (drop at t)) ≡ storing (storedRow c i r) (i + 1) (rowsOf (drop end t))
+    pub turn-columns : (c : Columns) (i : ℕ)
+        → storing c i (rowsOf (drop at t)) ≡ storing (storedRow c i r) (i + 1) (rowsOf (drop end t))
     turn-columns c i = ap (storing c i) turn-rows ∙ storing-cons c i r (rowsOf (drop end t))
 
 -- nothing is left
@@ -169,30 +182,36 @@ module _ (t : List ℕ) where
       unfolding parse
       parse-head = simp (le-leb (length t) maxBytes l) (go (headRead t) h)
         where
-          go : (x : Read Head) → H.Head f p next ≡ headAt 0 x → afterHead x t ≡ withRows (record { files = f; peptides = p }) (rowsOf (drop next t))
+          go : (x : Read Head) → H.Head f p next ≡ headAt 0 x
+              → afterHead x t ≡ withRows (record { files = f; peptides = p }) (rowsOf (drop next t))
           go (value g n) e =
               let a : f ≡ g .files = cc in
               let b : p ≡ g .peptides = cc in
               let d : next ≡ 0 + n = cc in
               ap (λ (k : ℕ). withRows g (rowsOf (drop k t))) (sym (d ∙ zero-add n))
-              ∙ ap (λ (k : ℕ). withRows (record { files = k; peptides = g .peptides }) (rowsOf (drop next t))) (sym a)
+              ∙ ap (λ (k : ℕ). withRows (record { files = k; peptides = g .peptides }) (rowsOf (drop next t)))
+              (sym a)
               ∙ ap (λ (k : ℕ). withRows (record { files = f; peptides = k }) (rowsOf (drop next t))) (sym b)
           go malformed e = cc
 
       pub parse-none : RS.Malformed ≡ countFrom 0 (rowsOf (drop next t)) → parse t ≡ none
       parse-none e = parse-head ∙ go (rowsOf (drop next t)) e
         where
-          go : (o : Option (List TextRow)) → RS.Malformed ≡ countFrom 0 o → withRows (record { files = f; peptides = p }) o ≡ none
+          go : (o : Option (List TextRow)) → RS.Malformed ≡ countFrom 0 o
+              → withRows (record { files = f; peptides = p }) o ≡ none
           go none g = refl
           go (some rows) g = cc
 
       -- the rows are there, and as many as were counted
-      pub rows-counted : (k : ℕ) → RS.Rows k ≡ countFrom 0 (rowsOf (drop next t)) → (rows : List TextRow) × (rowsOf (drop next t) ≡ some rows) × (k ≡ length rows)
+      pub rows-counted : (k : ℕ) → RS.Rows k ≡ countFrom 0 (rowsOf (drop next t))
+          → (rows : List TextRow) × (rowsOf (drop next t) ≡ some rows) × (k ≡ length rows)
       rows-counted k e = go (rowsOf (drop next t)) refl e
         where
-          go : (o : Option (List TextRow)) → rowsOf (drop next t) ≡ o → RS.Rows k ≡ countFrom 0 o → (rows : List TextRow) × (rowsOf (drop next t) ≡ some rows) × (k ≡ length rows)
+          go : (o : Option (List TextRow)) → rowsOf (drop next t) ≡ o → RS.Rows k ≡ countFrom 0 o
+              → (rows : List TextRow) × (rowsOf (drop next t) ≡ some rows) × (k ≡ length rows)
           go none g x = let z : _≡_ {A = ℕ} 0 1 = cc in absurd (omega arith)
           go (some rows) g x = let y : k ≡ 0 + length rows = cc in (rows, g, y ∙ zero-add (length rows))
 
-      pub parse-some : (rows : List TextRow) → rowsOf (drop next t) ≡ some rows → parse t ≡ some (record { files = f; peptides = p; rows = rows })
+      pub parse-some : (rows : List TextRow) → rowsOf (drop next t) ≡ some rows
+          → parse t ≡ some (record { files = f; peptides = p; rows = rows })
       parse-some rows e = parse-head ∙ ap (withRows (record { files = f; peptides = p })) e

@@ -219,7 +219,8 @@ pub fn read_input(
 ) -> InputRead
     ensures { λ r. ⌜ r ≡ inputRead (parse (now (input .entry))) ⌝ }
     ensures { λ r. ⌜ ((d : Input) → parse (now (input .entry)) ≡ some d
-        → columnsOf file peptide label q rt .exit ≡ stored (columnsOf file peptide label q rt .entry) 0 (d .rows)) ⌝ }
+        → columnsOf file peptide label q rt .exit
+        ≡ stored (columnsOf file peptide label q rt .entry) 0 (d .rows)) ⌝ }
 {
     if input.len() > BYTES_MAX {
         return InputRead::Malformed;

@@ -34,7 +34,8 @@ pub float-length : (key : List ℕ) (x : Float) → length (floatLine key x) ≡
 unfolding floatLine
 float-length key x = omega (arith, line-length key (hexOf 8 (toBits binary32 x)), length-hexOf 8 (toBits binary32 x))
 
-pub decimal-line-length : (key : List ℕ) (n : ℕ) → n < 2 ^ 32 → length (line key (decimalOf n)) ≤ length key + 11
+pub decimal-line-length : (key : List ℕ) (n : ℕ) → n < 2 ^ 32
+    → length (line key (decimalOf n)) ≤ length key + 11
 decimal-line-length key n h = omega (arith, line-length key (decimalOf n), decimal-length 9 n (omega arith))
 
 pub status-length : (n : ℕ) → n < 2 ^ 32 → length (statusText n) ≤ 18

@@ -19,13 +19,18 @@ module _ (before : List ℕ) (at₀ : ℕ) (all : List ℕ) where
   pub writing-start : Writing before at₀ all before at₀ all
   writing-start = record { next = refl; same = refl; long = refl }
 
-  pub writing-done : (out : List ℕ) (at : ℕ) → Writing before at₀ all out at [] → Wrote before at₀ all at out
+  pub writing-done : (out : List ℕ) (at : ℕ) → Writing before at₀ all out at []
+      → Wrote before at₀ all at out
   writing-done out at w = record { next = omega (arith, w .next); out = w .same }
 
-  pub writing-more : (out : List ℕ) (at : ℕ) (a rest : List ℕ) (r : ℕ) (m : List ℕ) → Writing before at₀ all out at (a ++ rest) → Wrote out at a r m → Writing before at₀ all m r rest
+  pub writing-more : (out : List ℕ) (at : ℕ) (a rest : List ℕ) (r : ℕ) (m : List ℕ)
+      → Writing before at₀ all out at (a ++ rest) → Wrote out at a r m → Writing before at₀ all m r rest
   writing-more out at a rest r m w p =
       record {
         next = omega (arith, p .next, length-append a rest, w .next);
-        same = ap₂ (λ (n : List ℕ) (i : ℕ). sets n i rest) (p .out) (p .next) ∙ sym (sets-append out at a rest) ∙ w .same;
+        same =
+            ap₂ (λ (n : List ℕ) (i : ℕ). sets n i rest) (p .out) (p .next)
+            ∙ sym (sets-append out at a rest)
+            ∙ w .same;
         long = wrote-length out at a r m p ∙ w .long;
       }

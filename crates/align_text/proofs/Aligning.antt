@@ -57,7 +57,8 @@ refused-number : (s n : ℕ) → Refused n ≡ answerOf s → (eqb s accepted �
 unfolding answerOf
 refused-number s n h = go (eqb s accepted) refl h
   where
-    go : (b : Bool) → eqb s accepted ≡ b → Refused n ≡ cond b Accepted (Refused s) → (eqb s accepted ≡ false) × (s ≡ n)
+    go : (b : Bool) → eqb s accepted ≡ b → Refused n ≡ cond b Accepted (Refused s)
+        → (eqb s accepted ≡ false) × (s ≡ n)
     go true e g = let z : _≡_ {A = ℕ} 0 1 = cc in absurd (omega arith)
     go false e g = (e, cc)
 
@@ -124,7 +125,8 @@ module _ (i : Input) (out : List ℕ) (d : Ready i out) where
       unfolding slicesAfter
       after-is =
           w .slices
-          ∙ ap (λ (b : Bool). cond b (filled i s) s) (ap (λ (n : ℕ). eqb n accepted) (status-is s room) ∙ passed)
+          ∙ ap (λ (b : Bool). cond b (filled i s) s)
+          (ap (λ (n : ℕ). eqb n accepted) (status-is s room) ∙ passed)
 
       times-long : length (map (aligned (recordsFor i)) (rows i)) ≡ length (i .file)
       times-long =

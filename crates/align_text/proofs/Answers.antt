@@ -40,19 +40,26 @@ use Rattle.align_text.specs.Buffer.{Stands}
 use Rattle.align_text.specs.declared.Buffered.{Buffered}
 
 -- an answer in a buffer, by equal numbers and equal texts
-pub restated : {s s′ : ℕ} {x x′ before after : List ℕ} {r : Buffered} → s ≡ s′ → x ≡ x′ → Stands s x before r after → Stands s′ x′ before r after
+pub restated : {s s′ : ℕ} {x x′ before after : List ℕ} {r : Buffered} → s ≡ s′ → x ≡ x′
+    → Stands s x before r after → Stands s′ x′ before r after
 restated {s} {s′} {x} {x′} {before} {after} {r} e f h =
-    record { number = h .number ∙ e; wrote = subst (λ (y : List ℕ). Wrote before 0 y (r .length) after) f (h .wrote) }
+    record {
+      number = h .number ∙ e;
+      wrote = subst (λ (y : List ℕ). Wrote before 0 y (r .length) after) f (h .wrote);
+    }
 
-pub malformed-is : (t : List ℕ) → IR.Malformed ≡ inputRead (parse t) → (malformed ≡ textStatus t) × (statusText malformed ≡ alignText t)
+pub malformed-is : (t : List ℕ) → IR.Malformed ≡ inputRead (parse t)
+    → (malformed ≡ textStatus t) × (statusText malformed ≡ alignText t)
 unfolding alignText textStatus
 malformed-is t h = go (parse t) h
   where
-    go : (o : Option Input) → IR.Malformed ≡ inputRead o → (malformed ≡ statusTo o) × (statusText malformed ≡ answerTo o)
+    go : (o : Option Input) → IR.Malformed ≡ inputRead o
+        → (malformed ≡ statusTo o) × (statusText malformed ≡ answerTo o)
     go none e = (refl, refl)
     go (some d) e = let z : _≡_ {A = ℕ} 0 1 = cc in absurd (omega arith)
 
-input-eq : {fs fs′ ps ps′ : List ℕ} {l l′ : List ℤ} {q q′ t t′ : List Float} {f f′ p p′ : ℕ} → fs ≡ fs′ → ps ≡ ps′ → l ≡ l′ → q ≡ q′ → t ≡ t′ → f ≡ f′ → p ≡ p′
+input-eq : {fs fs′ ps ps′ : List ℕ} {l l′ : List ℤ} {q q′ t t′ : List Float} {f f′ p p′ : ℕ}
+    → fs ≡ fs′ → ps ≡ ps′ → l ≡ l′ → q ≡ q′ → t ≡ t′ → f ≡ f′ → p ≡ p′
     → _≡_ {A = Call.Input} (record { file = fs; peptide = ps; label = l; q = q; rt = t; files = f; peptides = p }) (record { file = fs′; peptide = ps′; label = l′; q = q′; rt = t′; files = f′; peptides = p′ })
 input-eq a b c d e f g = cc
 
@@ -72,7 +79,8 @@ given-by t f p k h = go (parse t) refl h
     go (some d) e g = record { input = d; parsed = e; files = cc; peptides = cc; rows = cc }
 
 -- the first cells, once vs is stored there
-pub first-cells : {A : Type 0} (k : ℕ) (z l vs : List A) → l ≡ sets z 0 vs → length vs ≡ k → k ≤ length l → take k l ≡ vs
+pub first-cells : {A : Type 0} (k : ℕ) (z l vs : List A) → l ≡ sets z 0 vs → length vs ≡ k → k ≤ length l
+    → take k l ≡ vs
 first-cells k z l vs e n room =
     let m : length z ≡ length l = sym (ap length e ∙ length-sets z 0 vs) in
     ap (take k) (e ∙ sets-eq vs z 0 (omega arith)) ∙ take-at vs _ k n
@@ -89,7 +97,12 @@ within f p k h =
     let a = and-true (leb 1 f && leb f maxFiles && leb p maxPeptides) (leb k maxRows) h in
     let b = and-true (leb 1 f && leb f maxFiles) (leb p maxPeptides) (a .0) in
     let c = and-true (leb 1 f) (leb f maxFiles) (b .0) in
-    record { some-files = leb-true 1 f (c .0); files = leb-true f maxFiles (c .1); peptides = leb-true p maxPeptides (b .1); rows = leb-true k maxRows (a .1) }
+    record {
+      some-files = leb-true 1 f (c .0);
+      files = leb-true f maxFiles (c .1);
+      peptides = leb-true p maxPeptides (b .1);
+      rows = leb-true k maxRows (a .1);
+    }
 
 module _ (t : List ℕ) (f p k : ℕ) (g : Given t f p k) where
   abbrev d : Input
@@ -103,13 +116,16 @@ module _ (t : List ℕ) (f p k : ℕ) (g : Given t f p k) where
 
   answer-is : alignText t ≡ cond (withinLimits f p k) (columnsText (columnsOf d)) (statusText pastLimit)
   unfolding alignText inputText
-  answer-is = ap answerTo (g .parsed) ∙ ap (λ (b : Bool). cond b (columnsText (columnsOf d)) (statusText pastLimit)) within-is
+  answer-is =
+      ap answerTo (g .parsed)
+      ∙ ap (λ (b : Bool). cond b (columnsText (columnsOf d)) (statusText pastLimit)) within-is
 
   status-is : textStatus t ≡ cond (withinLimits f p k) (columnsStatus (columnsOf d)) pastLimit
   unfolding textStatus inputStatus columnsStatus
   status-is = ap statusTo (g .parsed) ∙ ap (λ (b : Bool). cond b (columnsStatus (columnsOf d)) pastLimit) within-is
 
-  pub limited-is : withinLimits f p k ≡ false → (pastLimit ≡ textStatus t) × (statusText pastLimit ≡ alignText t)
+  pub limited-is : withinLimits f p k ≡ false
+      → (pastLimit ≡ textStatus t) × (statusText pastLimit ≡ alignText t)
   limited-is h = (
     sym (status-is ∙ ap (λ (b : Bool). cond b (columnsStatus (columnsOf d)) pastLimit) h),
     sym (answer-is ∙ ap (λ (b : Bool). cond b (columnsText (columnsOf d)) (statusText pastLimit)) h),
@@ -125,16 +141,22 @@ module _ (t : List ℕ) (f p k : ℕ) (g : Given t f p k) where
       columns-is : record { file = take k file; peptide = take k peptide; label = take k label; q = take k q; rt = take k rt; files = f; peptides = p } ≡ columnsOf d
       unfolding columnsOf
       columns-is =
-          let a : take k file ≡ map (λ (r : TextRow). r .file) (d .rows) = first-cells k (zs .file) file _ (ap (λ (x : Columns). x .file) e) (counted (λ r. r .file)) lf in
-          let b : take k peptide ≡ map (λ (r : TextRow). r .peptide) (d .rows) = first-cells k (zs .peptide) peptide _ (ap (λ (x : Columns). x .peptide) e) (counted (λ r. r .peptide)) lp in
-          let c : take k label ≡ map (λ (r : TextRow). r .label) (d .rows) = first-cells k (zs .label) label _ (ap (λ (x : Columns). x .label) e) (counted (λ r. r .label)) ll in
-          let u : take k q ≡ map qOf (d .rows) = first-cells k (zs .q) q _ (ap (λ (x : Columns). x .q) e) (counted qOf) lq in
-          let v : take k rt ≡ map rtOf (d .rows) = first-cells k (zs .rt) rt _ (ap (λ (x : Columns). x .rt) e) (counted rtOf) lt in
+          let a : take k file ≡ map (λ (r : TextRow). r .file) (d .rows) =
+          first-cells k (zs .file) file _ (ap (λ (x : Columns). x .file) e) (counted (λ r. r .file)) lf in
+          let b : take k peptide ≡ map (λ (r : TextRow). r .peptide) (d .rows) =
+          first-cells k (zs .peptide) peptide _ (ap (λ (x : Columns). x .peptide) e) (counted (λ r. r .peptide)) lp in
+          let c : take k label ≡ map (λ (r : TextRow). r .label) (d .rows) =
+          first-cells k (zs .label) label _ (ap (λ (x : Columns). x .label) e) (counted (λ r. r .label)) ll in
+          let u : take k q ≡ map qOf (d .rows) =
+          first-cells k (zs .q) q _ (ap (λ (x : Columns). x .q) e) (counted qOf) lq in
+          let v : take k rt ≡ map rtOf (d .rows) =
+          first-cells k (zs .rt) rt _ (ap (λ (x : Columns). x .rt) e) (counted rtOf) lt in
           input-eq a b c u v (g .files) (g .peptides)
 
       -- the columns' number and text are the text's
       pub aligned-is : (columnsStatus (record { file = take k file; peptide = take k peptide; label = take k label; q = take k q; rt = take k rt; files = f; peptides = p }) ≡ textStatus t)
-          × (columnsText (record { file = take k file; peptide = take k peptide; label = take k label; q = take k q; rt = take k rt; files = f; peptides = p }) ≡ alignText t)
+          ×
+          (columnsText (record { file = take k file; peptide = take k peptide; label = take k label; q = take k q; rt = take k rt; files = f; peptides = p }) ≡ alignText t)
       aligned-is = (
         ap columnsStatus columns-is ∙ sym (status-is ∙ ap (λ (b : Bool). cond b (columnsStatus (columnsOf d)) pastLimit) h),
         ap columnsText columns-is ∙ sym (answer-is ∙ ap (λ (b : Bool). cond b (columnsText (columnsOf d)) (statusText pastLimit)) h),

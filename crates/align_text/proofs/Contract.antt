@@ -66,13 +66,16 @@ module _ (t before : List ℕ) where
       go false e b f = refl
       go true e b f = ap (λ (x : Bool). cond x accepted tooShort) f ∙ sym (eqb-true (textStatus t) accepted e)
 
-  too-long : fits (alignText t) before ≡ false → callStatus t before ≡ cond (eqb (textStatus t) accepted) tooShort (textStatus t)
+  too-long : fits (alignText t) before ≡ false
+      → callStatus t before ≡ cond (eqb (textStatus t) accepted) tooShort (textStatus t)
   unfolding callStatus
   too-long f = ap (λ (b : Bool). cond (eqb (textStatus t) accepted) (cond b accepted tooShort) (textStatus t)) f
 
   -- an answer that is made of the number and of what is written
-  of-parts : (s n : ℕ) (r : TextAnswer) (after : List ℕ) → callStatus t before ≡ s → writtenTo t before ≡ n → r ≡ answerOf s n
-      → after ≡ cond (fits (alignText t) before) (overwritten (alignText t) before) before → Answered t before r after
+  of-parts : (s n : ℕ) (r : TextAnswer) (after : List ℕ) → callStatus t before ≡ s → writtenTo t before ≡ n
+      → r ≡ answerOf s n
+      → after ≡ cond (fits (alignText t) before) (overwritten (alignText t) before) before
+      → Answered t before r after
   of-parts s n r after e f h o =
       record {
         answer = h ∙ ap (λ (x : ℕ). answerOf x n) (sym e) ∙ ap (answerOf (callStatus t before)) (sym f);
@@ -133,10 +136,12 @@ module _ (t before : List ℕ) where
       written-refused a = of-parts s n _ after (fitting yes ∙ sym es) all-written (refused-answer s n a) set
 
 -- what is said to be written fits
-pub written-fits : (t before : List ℕ) (r : TextAnswer) (after : List ℕ) → Answered t before r after → writtenIn r ≤ length before
+pub written-fits : (t before : List ℕ) (r : TextAnswer) (after : List ℕ) → Answered t before r after
+    → writtenIn r ≤ length before
 written-fits t before r after w = go (fits (alignText t) before) refl (written-in r _ _ (w .told))
   where
-    go : (b : Bool) → fits (alignText t) before ≡ b → writtenIn r ≡ cond b (length (alignText t)) 0 → writtenIn r ≤ length before
+    go : (b : Bool) → fits (alignText t) before ≡ b → writtenIn r ≡ cond b (length (alignText t)) 0
+        → writtenIn r ≤ length before
     go true e g = omega (arith, g, leb-true (length (alignText t)) (length before) e)
     go false e g = omega (arith, g)
 
@@ -144,15 +149,18 @@ refused-number : (s n m k : ℕ) → Refused s n ≡ answerOf m k → eqb m acce
 unfolding answerOf
 refused-number s n m k h = go (eqb m accepted) refl h
   where
-    go : (b : Bool) → eqb m accepted ≡ b → Refused s n ≡ cond b (Accepted k) (Refused m k) → eqb m accepted ≡ false
+    go : (b : Bool) → eqb m accepted ≡ b → Refused s n ≡ cond b (Accepted k) (Refused m k)
+        → eqb m accepted ≡ false
     go true e g = let z : _≡_ {A = ℕ} 0 1 = cc in absurd (omega arith)
     go false e g = e
 
 -- what a refused call wrote is the line of the number that it answers
-pub refused-line : (t before after : List ℕ) (s n : ℕ) → Answered t before (Refused s n) after → 0 < n → take n after ≡ statusText s
+pub refused-line : (t before after : List ℕ) (s n : ℕ) → Answered t before (Refused s n) after → 0 < n
+    → take n after ≡ statusText s
 refused-line t before after s n w h = go (fits (alignText t) before) refl (written-in (Refused s n) _ _ (w .told))
   where
-    go : (b : Bool) → fits (alignText t) before ≡ b → n ≡ cond b (length (alignText t)) 0 → take n after ≡ statusText s
+    go : (b : Bool) → fits (alignText t) before ≡ b → n ≡ cond b (length (alignText t)) 0
+        → take n after ≡ statusText s
     go false e v = absurd (omega (arith, v, h))
     go true e v =
         let f = fitting t before e in

@@ -49,7 +49,8 @@ closed (s ∷ ss) = ascii s ++ 10 ∷ closed ss
 
 -- a text with one row
 abbrev one : (files peptides file peptide rt : String) → List ℕ
-one files peptides file peptide rt = closed (files ∷ peptides ∷ file ∷ peptide ∷ "label=1" ∷ "q=00000000" ∷ rt ∷ [])
+one files peptides file peptide rt =
+    closed (files ∷ peptides ∷ file ∷ peptide ∷ "label=1" ∷ "q=00000000" ∷ rt ∷ [])
 
 -- the answer to a text with one file and one row
 abbrev answer : (max slope intercept aligned : String) → List ℕ
@@ -60,22 +61,28 @@ answer max slope intercept aligned = closed ("status=0" ∷ "file=0" ∷ max ∷
 abbrev tests : List (List ℕ × List ℕ)
 tests =
     (one "files=1" "peptides=1" "file=0" "peptide=0" "rt=41200000", answer "max=41200000" "slope=00000000" "intercept=3F800000" "aligned=3F800000")
-    ∷ (one "files=1" "peptides=1" "file=0" "peptide=0" "rt=41133333", answer "max=41200000" "slope=00000000" "intercept=3F6B851E" "aligned=3F6B851E")
-    ∷ (one "files=1" "peptides=1" "file=0" "peptide=0" "rt=C0400000", answer "max=00000000" "slope=3F800000" "intercept=00000000" "aligned=FF800000")
-    ∷ (one "files=1" "peptides=1" "file=0" "peptide=0" "rt=4F9502F9", answer "max=4F800000" "slope=00000000" "intercept=3F9502F9" "aligned=3F9502F9")
-    ∷ (closed ("files=1" ∷ "peptides=1" ∷ []), closed ("status=0" ∷ "file=0" ∷ "max=00000000" ∷ "slope=3F800000" ∷ "intercept=00000000" ∷ []))
+    ∷
+    (one "files=1" "peptides=1" "file=0" "peptide=0" "rt=41133333", answer "max=41200000" "slope=00000000" "intercept=3F6B851E" "aligned=3F6B851E")
+    ∷
+    (one "files=1" "peptides=1" "file=0" "peptide=0" "rt=C0400000", answer "max=00000000" "slope=3F800000" "intercept=00000000" "aligned=FF800000")
+    ∷
+    (one "files=1" "peptides=1" "file=0" "peptide=0" "rt=4F9502F9", answer "max=4F800000" "slope=00000000" "intercept=3F9502F9" "aligned=3F9502F9")
+    ∷
+    (closed ("files=1" ∷ "peptides=1" ∷ []), closed ("status=0" ∷ "file=0" ∷ "max=00000000" ∷ "slope=3F800000" ∷ "intercept=00000000" ∷ []))
     ∷ (closed ("files=0" ∷ "peptides=1" ∷ []), closed ("status=2" ∷ []))
     ∷ (one "files=2" "peptides=1" "file=2" "peptide=0" "rt=41200000", closed ("status=4" ∷ []))
     ∷ (one "files=1" "peptides=1" "file=0" "peptide=1" "rt=41200000", closed ("status=5" ∷ []))
     ∷ (closed ("files=+1" ∷ "peptides=1" ∷ []), closed ("status=10" ∷ []))
     ∷ []
 
-pub examples : map (λ (t : List ℕ × List ℕ). alignText (t .0)) tests ≡ map (λ (t : List ℕ × List ℕ). t .1) tests
+pub examples : map (λ (t : List ℕ × List ℕ). alignText (t .0)) tests
+    ≡ map (λ (t : List ℕ × List ℕ). t .1) tests
 unfolding alignText inputText columnsText alignmentText columnsOf acceptedText filesText fileText alignedText floatLine statusText flatten headD decimalOf decimalOnto hexOf hexDigit toBits nanBits parse headRead rowsOf rowsFrom rowRead decimalLine signedLine hexLine firstLine keyed lineOf startsWith readDecimal readFrom isDigit readSigned negative nonNegative readHexDigits readHex digitValue allHex hexValue every observations maxRt maxRts times smaller minRt minRts alignments onLine aligned mask kept trains ceiling minimum tabulate lines line RL.lineOf share present mean keptRows pointOf points finiteOr isFinite isNormal narrowed round add sub mul div lt le eq ofInt toUnsigned ofBits zipWith
 examples = refl
 
 -- the numbers of these texts
-pub statuses : map (λ (t : List ℕ × List ℕ). textStatus (t .0)) tests ≡ 0 ∷ 0 ∷ 0 ∷ 0 ∷ 0 ∷ 2 ∷ 4 ∷ 5 ∷ 10 ∷ []
+pub statuses : map (λ (t : List ℕ × List ℕ). textStatus (t .0)) tests
+    ≡ 0 ∷ 0 ∷ 0 ∷ 0 ∷ 0 ∷ 2 ∷ 4 ∷ 5 ∷ 10 ∷ []
 unfolding textStatus inputStatus columnsOf parse headRead rowsOf rowsFrom rowRead decimalLine signedLine hexLine firstLine keyed lineOf startsWith readDecimal readFrom isDigit readSigned negative nonNegative readHexDigits readHex digitValue allHex hexValue every
 statuses = refl
 

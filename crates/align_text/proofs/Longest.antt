@@ -43,7 +43,8 @@ abbrev pub longest : ℕ
 longest = 4882
 
 -- the longer of two texts
-either : (b : Bool) (x y : List ℕ) (n : ℕ) → (b ≡ true → length x ≤ n) → length y ≤ n → length (cond b x y) ≤ n
+either : (b : Bool) (x y : List ℕ) (n : ℕ) → (b ≡ true → length x ≤ n) → length y ≤ n
+    → length (cond b x y) ≤ n
 either true x y n h g = h refl
 either false x y n h g = g
 
@@ -70,7 +71,8 @@ rows-count : (d : Input) → length (rows (columnsOf d)) ≡ length (d .rows)
 unfolding columnsOf
 rows-count d =
     let f = length-map (d .rows) (λ r. r .file) in
-    length-rows (map (λ (r : TextRow). r .file) (d .rows)) (map (λ (r : TextRow). r .peptide) (d .rows)) (map rtOf (d .rows)) (length-map (d .rows) (λ r. r .peptide) ∙ sym f) (length-map (d .rows) rtOf ∙ sym f)
+    length-rows (map (λ (r : TextRow). r .file) (d .rows)) (map (λ (r : TextRow). r .peptide) (d .rows))
+    (map rtOf (d .rows)) (length-map (d .rows) (λ r. r .peptide) ∙ sym f) (length-map (d .rows) rtOf ∙ sym f)
     ∙ f
 
 input-short : (d : Input) → length (inputText d) ≤ longest
@@ -91,7 +93,8 @@ unfolding alignText
 text-short t = answer-short (parse t)
 
 -- an output of that length takes every answer: the call's number is the text's, and what is written is the whole text
-pub always-written : (t before : List ℕ) (r : TextAnswer) (after : List ℕ) → Answered t before r after → longest ≤ length before
+pub always-written : (t before : List ℕ) (r : TextAnswer) (after : List ℕ) → Answered t before r after
+    → longest ≤ length before
     → (r ≡ answerOf (textStatus t) (length (alignText t))) × (after ≡ overwritten (alignText t) before)
 always-written t before r after w h =
     let f : fits (alignText t) before ≡ true = le-leb (length (alignText t)) (length before) (omega (arith, text-short t)) in (

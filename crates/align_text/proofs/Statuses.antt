@@ -39,7 +39,8 @@ unfolding columnsText columnsStatus
 columns-text i = go (allBelow (i .files) (i .file)) (allBelow (i .peptides) (i .peptide)) (alignmentText i)
   where
     go : (a b : Bool) (t : List ℕ)
-        → cond a (cond b t (statusText badPeptide)) (statusText badFile) ≡ byStatus (firstFailing ((badFile, a) ∷ (badPeptide, b) ∷ [])) t
+        → cond a (cond b t (statusText badPeptide)) (statusText badFile)
+        ≡ byStatus (firstFailing ((badFile, a) ∷ (badPeptide, b) ∷ [])) t
     go false b t = refl
     go true false t = refl
     go true true t = refl
@@ -49,7 +50,8 @@ unfolding inputText inputStatus columnsStatus
 input-text d = go (withinLimits (d .files) (d .peptides) (length (d .rows)))
   where
     go : (b : Bool)
-        → cond b (columnsText (columnsOf d)) (statusText pastLimit) ≡ byStatus (firstFailing ((pastLimit, b) ∷ columnChecks (columnsOf d))) (alignmentText (columnsOf d))
+        → cond b (columnsText (columnsOf d)) (statusText pastLimit)
+        ≡ byStatus (firstFailing ((pastLimit, b) ∷ columnChecks (columnsOf d))) (alignmentText (columnsOf d))
     go false = refl
     go true = columns-text (columnsOf d)
 
@@ -68,7 +70,8 @@ text-by-status t = go (parse t)
     go (some d) = input-text d
 
 -- so a refused text is answered with its number
-pub refused-text : (t : List ℕ) → eqb (textStatus t) accepted ≡ false → alignText t ≡ statusText (textStatus t)
+pub refused-text : (t : List ℕ) → eqb (textStatus t) accepted ≡ false
+    → alignText t ≡ statusText (textStatus t)
 refused-text t h = text-by-status t ∙ ap (λ (b : Bool). cond b (alignmentOf (parse t)) (statusText (textStatus t))) h
 
 -- a text that begins with the line of a number
@@ -76,9 +79,11 @@ pub record Begins (n : ℕ) (text : List ℕ) : Type 0 where
   pub rest : List ℕ
   pub whole : text ≡ statusText n ++ rest
 
-accepted-begins : (n : ℕ) → eqb n accepted ≡ true → (i : Call.Input) (text : List ℕ) → text ≡ alignmentText i → Begins n text
+accepted-begins : (n : ℕ) → eqb n accepted ≡ true → (i : Call.Input) (text : List ℕ)
+    → text ≡ alignmentText i → Begins n text
 unfolding alignmentText acceptedText flatten
-accepted-begins n e i text h = subst (λ (m : ℕ). Begins m text) (sym (eqb-true n accepted e)) (record { rest = _; whole = h })
+accepted-begins n e i text h =
+    subst (λ (m : ℕ). Begins m text) (sym (eqb-true n accepted e)) (record { rest = _; whole = h })
 
 -- and every answer begins with the line of its text's number
 pub first-line : (t : List ℕ) → Begins (textStatus t) (alignText t)

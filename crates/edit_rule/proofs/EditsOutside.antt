@@ -83,7 +83,8 @@ module _ (e : End) where
       ∙ first-written (e .input .files) (e .before .records) (definition e .records) count
 
   -- the model fits, by the answer and by the definition
-  solved-is : (part : Part) → fits part (e .answer) ≡ true → isSolved (fitOfPart part (definition e) .outcome) ≡ true
+  solved-is : (part : Part) → fits part (e .answer) ≡ true
+      → isSolved (fitOfPart part (definition e) .outcome) ≡ true
   solved-is ofRetention h = sym (ap (fits ofRetention) answer-is) ∙ h
   solved-is ofMobility h = sym (ap (fits ofMobility) answer-is) ∙ h
 

@@ -88,7 +88,8 @@ module _ (n w : ℕ) (rows : List (List Float)) (s : Sized n w rows) where
       (length-indexed (ridged eps) rows ∙ s .0, wide-indexed w (ridged eps) (λ i r e. length-set r i _ ∙ e) rows (s .1))
 
   -- the rows after some, made anew
-  sized-below : (k : ℕ) (f : List Float → List Float) → ((r : List Float) → length r ≡ w → length (f r) ≡ w) → k ≤ n
+  sized-below : (k : ℕ) (f : List Float → List Float)
+      → ((r : List Float) → length r ≡ w → length (f r) ≡ w) → k ≤ n
       → Sized n w (take k rows ++ map f (drop k rows))
   sized-below k f h l =
       let e = s .0 in (
@@ -99,7 +100,8 @@ module _ (n w : ℕ) (rows : List (List Float)) (s : Sized n w rows) where
       )
 
   -- the rows before some
-  sized-above : (k : ℕ) (f : List Float → List Float) → ((r : List Float) → length r ≡ w → length (f r) ≡ w) → k ≤ n
+  sized-above : (k : ℕ) (f : List Float → List Float)
+      → ((r : List Float) → length r ≡ w → length (f r) ≡ w) → k ≤ n
       → Sized n w (map f (take k rows) ++ drop k rows)
   sized-above k f h l =
       let e = s .0 in (
@@ -150,7 +152,8 @@ sized-eliminated n w h k rows s l m =
     let rows' = swapped h (pivotRow h k rows) rows in
     sized-below n w rows' t (suc h) (cleared k (rowOf rows' h)) (λ r e. length-cleared k w _ r m e) (omega arith)
 
-sized-echelon : (n w left k h : ℕ) (rows : List (List Float)) → Sized n w rows → h ≤ k → k + left ≤ n → n ≤ w
+sized-echelon : (n w left k h : ℕ) (rows : List (List Float)) → Sized n w rows → h ≤ k → k + left ≤ n
+    → n ≤ w
     → Sized n w (echelonFrom left k h rows)
 unfolding echelonFrom
 sized-echelon n w zero k h rows s a b c = s
@@ -161,7 +164,8 @@ sized-echelon n w (suc left) k h rows s a b c =
     (sized-echelon n w left (suc k) h rows s (omega arith) (omega arith) c)
     (sized-echelon n w left (suc k) (suc h) (columnEliminated h k rows) t (omega arith) (omega arith) c)
 
-sized-backfilled : (n w i : ℕ) (rows : List (List Float)) → Sized n w rows → i ≤ n → Sized n w (backfillFrom n i rows)
+sized-backfilled : (n w i : ℕ) (rows : List (List Float)) → Sized n w rows → i ≤ n
+    → Sized n w (backfillFrom n i rows)
 unfolding backfillFrom
 sized-backfilled n w zero rows s h = s
 sized-backfilled n w (suc i) rows s h =

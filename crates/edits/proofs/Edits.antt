@@ -15,7 +15,8 @@ use Rattle.edits.specs.Edits.{edited, mayAt, touches, editedBy, touchOnl
 
 -- ---- what is selected of two lists
 
-selected-append : (sel : Row → Bool) (xs ys : List Row) → selected sel (xs ++ ys) ≡ selected sel xs ++ selected sel ys
+selected-append : (sel : Row → Bool) (xs ys : List Row)
+    → selected sel (xs ++ ys) ≡ selected sel xs ++ selected sel ys
 unfolding selected
 selected-append sel [] ys = refl
 selected-append sel (r ∷ xs) ys =
@@ -34,7 +35,8 @@ module _ (may sel : Row → Bool) (apart : (r : Row) → may r ≡ true → sel 
   skip r rows h = rw (apart r h)
 
   -- one edit
-  kept-with : (k : ℕ) (r : Row) (rows : List Row) → may r ≡ true → selected sel (withRow k r rows) ≡ selected sel rows
+  kept-with : (k : ℕ) (r : Row) (rows : List Row) → may r ≡ true
+      → selected sel (withRow k r rows) ≡ selected sel rows
   kept-with k r rows h =
       selected-append sel (take k rows) (r ∷ drop k rows)
       ∙ ap (λ (t : List Row). selected sel (take k rows) ++ t) (skip r (drop k rows) h)

@@ -21,7 +21,8 @@ module _ {A : Type 0} where
   made-none g xs = refl
 
   -- one element more
-  pub made-suc : (g : ℕ → A → A) (j : ℕ) (xs : List A) (d : A) → set (made g j xs) j (g j (getD (made g j xs) j d)) ≡ made g (suc j) xs
+  pub made-suc : (g : ℕ → A → A) (j : ℕ) (xs : List A) (d : A)
+      → set (made g j xs) j (g j (getD (made g j xs) j d)) ≡ made g (suc j) xs
   unfolding made
   made-suc g zero [] d = refl
   made-suc g zero (x ∷ xs) d = refl
@@ -47,14 +48,17 @@ module _ {A : Type 0} where
   made-all g zero [] h = refl
   made-all g zero (x ∷ xs) h = absurd (not-suc-le-zero h)
   made-all g (suc j) [] h = refl
-  made-all g (suc j) (x ∷ xs) h = ap {B = List A} (λ r. g zero x ∷ r) (made-all (λ i. g (suc i)) j xs (le-of-suc-le-suc h))
+  made-all g (suc j) (x ∷ xs) h =
+      ap {B = List A} (λ r. g zero x ∷ r) (made-all (λ i. g (suc i)) j xs (le-of-suc-le-suc h))
 
   -- twice, one way after the other
-  pub made-twice : (g h : ℕ → A → A) (j : ℕ) (xs : List A) → made (λ i x. h i (g i x)) j xs ≡ made h j (made g j xs)
+  pub made-twice : (g h : ℕ → A → A) (j : ℕ) (xs : List A)
+      → made (λ i x. h i (g i x)) j xs ≡ made h j (made g j xs)
   unfolding made
   made-twice g h zero xs = refl
   made-twice g h (suc j) [] = refl
-  made-twice g h (suc j) (x ∷ xs) = ap {B = List A} (λ r. h zero (g zero x) ∷ r) (made-twice (λ i. g (suc i)) (λ i. h (suc i)) j xs)
+  made-twice g h (suc j) (x ∷ xs) =
+      ap {B = List A} (λ r. h zero (g zero x) ∷ r) (made-twice (λ i. g (suc i)) (λ i. h (suc i)) j xs)
 
   -- each element by one function
   pub made-map : (f : A → A) (j : ℕ) (xs : List A) → length xs ≤ j → made (λ i. f) j xs ≡ map f xs
@@ -65,7 +69,8 @@ module _ {A : Type 0} where
   made-map f (suc j) (x ∷ xs) h = ap {B = List A} (λ r. f x ∷ r) (made-map f j xs (le-of-suc-le-suc h))
 
   -- each element the one beside it in another list as long
-  pub made-copy : (ys : List A) (d : A) (j : ℕ) (xs : List A) → length xs ≡ length ys → length xs ≤ j → made (λ i x. getD ys i d) j xs ≡ ys
+  pub made-copy : (ys : List A) (d : A) (j : ℕ) (xs : List A) → length xs ≡ length ys → length xs ≤ j
+      → made (λ i x. getD ys i d) j xs ≡ ys
   unfolding made
   made-copy [] d zero [] e h = refl
   made-copy [] d (suc j) [] e h = refl
@@ -74,10 +79,12 @@ module _ {A : Type 0} where
   made-copy (y ∷ ys) d zero [] e h = absurd (not-suc-le-zero (le-of-eq (sym e)))
   made-copy (y ∷ ys) d (suc j) [] e h = absurd (not-suc-le-zero (le-of-eq (sym e)))
   made-copy (y ∷ ys) d zero (x ∷ xs) e h = absurd (not-suc-le-zero h)
-  made-copy (y ∷ ys) d (suc j) (x ∷ xs) e h = ap {B = List A} (λ r. y ∷ r) (made-copy ys d j xs (omega arith) (le-of-suc-le-suc h))
+  made-copy (y ∷ ys) d (suc j) (x ∷ xs) e h =
+      ap {B = List A} (λ r. y ∷ r) (made-copy ys d j xs (omega arith) (le-of-suc-le-suc h))
 
   -- every element the same
-  pub made-fill : (v : A) (j : ℕ) (xs : List A) → length xs ≤ j → made (λ i x. v) j xs ≡ replicate (length xs) v
+  pub made-fill : (v : A) (j : ℕ) (xs : List A) → length xs ≤ j
+      → made (λ i x. v) j xs ≡ replicate (length xs) v
   unfolding made
   made-fill v zero [] h = refl
   made-fill v zero (x ∷ xs) h = absurd (not-suc-le-zero h)
@@ -85,7 +92,8 @@ module _ {A : Type 0} where
   made-fill v (suc j) (x ∷ xs) h = ap {B = List A} (λ r. v ∷ r) (made-fill v j xs (le-of-suc-le-suc h))
 
 -- each element from itself and the one beside it in another list that is no shorter
-pub made-zipped : {A B : Type 0} (g : A → B → A) (d : B) (j : ℕ) (xs : List A) (ys : List B) → length xs ≤ length ys → length xs ≤ j
+pub made-zipped : {A B : Type 0} (g : A → B → A) (d : B) (j : ℕ) (xs : List A) (ys : List B)
+    → length xs ≤ length ys → length xs ≤ j
     → made (λ i x. g x (getD ys i d)) j xs ≡ zipped g xs ys
 unfolding made zipped
 made-zipped g d zero [] ys l h = refl

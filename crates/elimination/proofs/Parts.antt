@@ -17,7 +17,8 @@ module _ {A : Type 0} where
       let e : length (drop a xs) ≤ length xs - a = rw length-drop (le-refl (length xs - a)) in
       take-all (length xs - a) (drop a xs) e
 
-  pub put-rest : (a : ℕ) (xs ys : List A) → take a xs ++ (ys ++ drop (length xs - a) (drop a xs)) ≡ take a xs ++ ys
+  pub put-rest : (a : ℕ) (xs ys : List A)
+      → take a xs ++ (ys ++ drop (length xs - a) (drop a xs)) ≡ take a xs ++ ys
   put-rest a xs ys =
       let e : length (drop a xs) ≤ length xs - a = rw length-drop (le-refl (length xs - a)) in
       rw (drop-of-length-le (drop a xs) e, append-nil) refl

@@ -12,7 +12,8 @@ use Rattle.elimination.specs.Elimination.{eliminate, leftSolved}
 use Rattle.elimination.specs.Ridge.{ten64, ridgesFrom, firstSolved, rightSide, solved, unsolved}
 
 -- one ridge more, or the end
-from-cons : (k : ℕ) (eps : Float) → le eps one64 ≡ true → ridgesFrom (suc k) eps ≡ eps ∷ ridgesFrom k (mul binary64 eps ten64)
+from-cons : (k : ℕ) (eps : Float) → le eps one64 ≡ true
+    → ridgesFrom (suc k) eps ≡ eps ∷ ridgesFrom k (mul binary64 eps ten64)
 unfolding ridgesFrom
 from-cons k eps e = rw (e, ridgesFrom)
 
@@ -42,7 +43,8 @@ pub within-first : Within tiny64
 unfolding ridgesFrom round le mul
 within-first = ltb→lt (length (ridgesFrom 16 tiny64)) 16 tt
 
-pub at-most-one : (eps : Float) → Within eps → le eps one64 ≡ true → ridgesFrom 16 eps ≡ eps ∷ ridgesFrom 16 (mul binary64 eps ten64)
+pub at-most-one : (eps : Float) → Within eps → le eps one64 ≡ true
+    → ridgesFrom 16 eps ≡ eps ∷ ridgesFrom 16 (mul binary64 eps ten64)
 at-most-one eps h e =
     let rest : length (ridgesFrom 15 (mul binary64 eps ten64)) < 15 = le-of-suc-le-suc (rw (from-cons 15 eps e) at h) in
     from-cons 15 eps e ∙ ap {B = List Float} (λ r. eps ∷ r) (sym (from-more 15 (mul binary64 eps ten64) rest))
@@ -51,7 +53,8 @@ pub above-one : (eps : Float) → le eps one64 ≡ false → ridgesFrom 16 eps �
 above-one eps e = from-nil 15 eps e
 
 -- there are fewer after each
-pub fewer : (eps : Float) → Within eps → le eps one64 ≡ true → length (ridgesFrom 16 (mul binary64 eps ten64)) < length (ridgesFrom 16 eps)
+pub fewer : (eps : Float) → Within eps → le eps one64 ≡ true
+    → length (ridgesFrom 16 (mul binary64 eps ten64)) < length (ridgesFrom 16 eps)
 fewer eps h e = le-of-eq (sym (ap length (at-most-one eps h e)))
 
 pub within-next : (eps : Float) → Within eps → le eps one64 ≡ true → Within (mul binary64 eps ten64)
@@ -60,14 +63,17 @@ within-next eps h e = lt-trans (fewer eps h e) h
 -- ---- the search for the first that solves a system
 
 module _ (n : ℕ) (rows : List (List Float)) (eps : Float) (h : Within eps) (e : le eps one64 ≡ true) where
-  pub solves-here : leftSolved n (eliminate n eps rows) ≡ true → firstSolved n rows (ridgesFrom 16 eps) ≡ solved eps (rightSide n (eliminate n eps rows))
+  pub solves-here : leftSolved n (eliminate n eps rows) ≡ true
+      → firstSolved n rows (ridgesFrom 16 eps) ≡ solved eps (rightSide n (eliminate n eps rows))
   unfolding firstSolved
   solves-here t = rw (at-most-one eps h e) (rw (t, firstSolved))
 
-  pub solves-later : leftSolved n (eliminate n eps rows) ≡ false → firstSolved n rows (ridgesFrom 16 eps) ≡ firstSolved n rows (ridgesFrom 16 (mul binary64 eps ten64))
+  pub solves-later : leftSolved n (eliminate n eps rows) ≡ false
+      → firstSolved n rows (ridgesFrom 16 eps) ≡ firstSolved n rows (ridgesFrom 16 (mul binary64 eps ten64))
   unfolding firstSolved
   solves-later t = rw (at-most-one eps h e) (rw (t, firstSolved))
 
-pub none-solves : (n : ℕ) (rows : List (List Float)) (eps : Float) → le eps one64 ≡ false → firstSolved n rows (ridgesFrom 16 eps) ≡ unsolved
+pub none-solves : (n : ℕ) (rows : List (List Float)) (eps : Float) → le eps one64 ≡ false
+    → firstSolved n rows (ridgesFrom 16 eps) ≡ unsolved
 unfolding firstSolved
 none-solves n rows eps e = rw (above-one eps e)

@@ -27,52 +27,64 @@ pub next-start : (a i w : ℕ) → a ≡ i * w → a + w ≡ (i + 1) * w
 next-start a i w e = omega arith
 
 -- The first i rows are made anew; row i is lent as the part from a on, k cells long, and comes back as r.
-pub row-turn : {A : Type 0} (g : ℕ → List A → List A) (rows : List (List A)) (i m w a k : ℕ) (xs r : List A) → rowsOf w m xs ≡ made g i rows → i < m
+pub row-turn : {A : Type 0} (g : ℕ → List A → List A) (rows : List (List A)) (i m w a k : ℕ) (xs r : List A)
+    → rowsOf w m xs ≡ made g i rows → i < m
     → length xs ≡ m * w → a ≡ i * w → k ≡ w → length r ≡ w → r ≡ g i (take k (drop a xs))
     → rowsOf w m (take a xs ++ (r ++ drop k (drop a xs))) ≡ made g (suc i) rows
 row-turn g rows i m w a k xs r inv h l ea ek er e =
     let part : take k (drop a xs) ≡ rowOf (rowsOf w m xs) i = rw (ea, ek) (sym (row-rowsOf w m i xs h)) in
     let is : r ≡ g i (rowOf (rowsOf w m xs) i) = e ∙ ap (g i) part in
-    rw (ea, ek) (rowsOf-put-row w m i r xs h (omega arith) er ∙ ap (set (rowsOf w m xs) i) is ∙ rw inv (made-suc g i rows []))
+    rw (ea, ek)
+    (rowsOf-put-row w m i r xs h (omega arith) er ∙ ap (set (rowsOf w m xs) i) is ∙ rw inv (made-suc g i rows []))
 
 -- The first i of m rows of w cells are made anew by g, row i begins at `at`, and the length is as it was.
-abbrev pub RowsMade : {A : Type 0} → (w m : ℕ) → (ℕ → List A → List A) → (xs₀ xs : List A) → (at i : ℕ) → Type 0
-RowsMade w m g xs₀ xs at i = (i ≤ m) × (at ≡ i * w) × (rowsOf w m xs ≡ made g i (rowsOf w m xs₀)) × (length xs ≡ length xs₀)
+abbrev pub RowsMade : {A : Type 0} → (w m : ℕ) → (ℕ → List A → List A) → (xs₀ xs : List A)
+    → (at i : ℕ) → Type 0
+RowsMade w m g xs₀ xs at i =
+    (i ≤ m) × (at ≡ i * w) × (rowsOf w m xs ≡ made g i (rowsOf w m xs₀)) × (length xs ≡ length xs₀)
 
 -- A turn of the loop, at row i: the part from `at` on is lent. It lies within the list and is a row; made anew, it
 -- leaves one row more made anew.
 pub record Turn {A : Type 0} (w m : ℕ) (g : ℕ → List A → List A) (xs₀ xs : List A) (at i : ℕ) : Type 0 where
   pub fits : at + w ≤ length xs
   pub part : length (take (at + w - at) (drop at xs)) ≡ w
-  pub next : (r : List A) → length r ≡ length (take (at + w - at) (drop at xs)) → r ≡ g i (take (at + w - at) (drop at xs))
+  pub next : (r : List A) → length r ≡ length (take (at + w - at) (drop at xs))
+      → r ≡ g i (take (at + w - at) (drop at xs))
       → RowsMade w m g xs₀ (take at xs ++ (r ++ drop (at + w - at) (drop at xs))) (at + w) (i + 1)
 
-pub turn : {A : Type 0} (w m : ℕ) (g : ℕ → List A → List A) (xs₀ xs : List A) (at i : ℕ) → RowsMade w m g xs₀ xs at i → i < m → length xs₀ ≡ m * w → Turn w m g xs₀ xs at i
+pub turn : {A : Type 0} (w m : ℕ) (g : ℕ → List A → List A) (xs₀ xs : List A) (at i : ℕ)
+    → RowsMade w m g xs₀ xs at i → i < m → length xs₀ ≡ m * w → Turn w m g xs₀ xs at i
 turn w m g xs₀ xs at i inv h whole =
     let f : at + w ≤ length xs = omega (arith, row-end w m i h, inv .1, inv .3) in
-    let p : length (take (at + w - at) (drop at xs)) ≡ w = part-length at (at + w - at) xs (omega arith) ∙ add-sub-cancel-left at w in
+    let p : length (take (at + w - at) (drop at xs)) ≡ w =
+    part-length at (at + w - at) xs (omega arith) ∙ add-sub-cancel-left at w in
     record {
       fits = f;
       part = p;
       next = λ r kept e. (
         omega arith,
         next-start at i w (inv .1),
-        rw add-one (row-turn g (rowsOf w m xs₀) i m w at (at + w - at) xs r (inv .2) h (inv .3 ∙ whole) (inv .1) (add-sub-cancel-left at w) (kept ∙ p) e),
+        rw add-one
+            (row-turn g (rowsOf w m xs₀) i m w at (at + w - at) xs r (inv .2) h (inv .3 ∙ whole) (inv .1) (add-sub-cancel-left at w) (kept ∙ p) e),
         same-len-mid at (at + w - at) xs r kept ∙ inv .3,
       );
     }
 
 module _ {A : Type 0} (w n i : ℕ) (cells part : List A) (h : i ≤ n) where
   -- the rows from row i on replaced
-  pub rows-below : length cells ≡ n * w → rowsOf w n (take (i * w) cells ++ part) ≡ take i (rowsOf w n cells) ++ rowsOf w (n - i) part
+  pub rows-below : length cells ≡ n * w
+      → rowsOf w n (take (i * w) cells ++ part) ≡ take i (rowsOf w n cells) ++ rowsOf w (n - i) part
   rows-below l =
-      let front : length (take (i * w) cells) ≡ i * w = length-take-le (i * w) cells (omega (arith, mul-le-mul-right {m = i} {n = n} w h)) in
+      let front : length (take (i * w) cells) ≡ i * w =
+      length-take-le (i * w) cells (omega (arith, mul-le-mul-right {m = i} {n = n} w h)) in
       ap (λ (k : ℕ). rowsOf w k (take (i * w) cells ++ part)) {x = n} {y = i + (n - i)} (omega arith)
       ∙ rowsOf-append-add w i (n - i) (take (i * w) cells) part front
-      ∙ ap (λ (t : List (List A)). t ++ rowsOf w (n - i) part) (rowsOf-take w i (i * w) cells (le-refl (i * w)) ∙ sym (take-rowsOf w n i cells h))
+      ∙ ap (λ (t : List (List A)). t ++ rowsOf w (n - i) part)
+      (rowsOf-take w i (i * w) cells (le-refl (i * w)) ∙ sym (take-rowsOf w n i cells h))
 
   -- the first i rows replaced
-  pub rows-above : length part ≡ i * w → rowsOf w n (part ++ drop (i * w) cells) ≡ rowsOf w i part ++ drop i (rowsOf w n cells)
+  pub rows-above : length part ≡ i * w
+      → rowsOf w n (part ++ drop (i * w) cells) ≡ rowsOf w i part ++ drop i (rowsOf w n cells)
   rows-above l =
       ap (λ (k : ℕ). rowsOf w k (part ++ drop (i * w) cells)) {x = n} {y = i + (n - i)} (omega arith)
       ∙ rowsOf-append-add w i (n - i) part (drop (i * w) cells) l
@@ -81,15 +93,18 @@ module _ {A : Type 0} (w n i : ℕ) (cells part : List A) (h : i ≤ n) where
 -- ---- the two sides together
 
 module _ {A : Type 0} where
-  pub length-augmented : (left right : List (List A)) → length left ≡ length right → length (augmented left right) ≡ length left
+  pub length-augmented : (left right : List (List A)) → length left ≡ length right
+      → length (augmented left right) ≡ length left
   unfolding augmented
   length-augmented [] right e = refl
   length-augmented (l ∷ left) [] e = absurd (not-suc-le-zero (le-of-eq e))
   length-augmented (l ∷ left) (r ∷ right) e = ap suc (length-augmented left right (omega arith))
 
-  pub row-augmented : (left right : List (List A)) (i : ℕ) → i < length left → i < length right → rowOf (augmented left right) i ≡ rowOf left i ++ rowOf right i
+  pub row-augmented : (left right : List (List A)) (i : ℕ) → i < length left → i < length right
+      → rowOf (augmented left right) i ≡ rowOf left i ++ rowOf right i
   unfolding augmented
   row-augmented [] right i h k = absurd (not-suc-le-zero h)
   row-augmented (l ∷ left) [] i h k = absurd (not-suc-le-zero k)
   row-augmented (l ∷ left) (r ∷ right) zero h k = refl
-  row-augmented (l ∷ left) (r ∷ right) (suc i) h k = row-augmented left right i (le-of-suc-le-suc h) (le-of-suc-le-suc k)
+  row-augmented (l ∷ left) (r ∷ right) (suc i) h k =
+      row-augmented left right i (le-of-suc-le-suc h) (le-of-suc-le-suc k)

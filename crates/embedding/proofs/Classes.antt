@@ -21,7 +21,8 @@ use Rattle.embedding.proofs.Rows.{none}
 
 -- the sum of cells that hold whole numbers, from a whole number on
 sum-cells : (cs : List ℕ) (a : ℕ) (ks : List ℕ) → a + total (map (λ k. getD cs k 0) ks) ≤ 2 ^ 53
-    → sumFrom (number a) (map (λ k. getD (map number cs) k (number 0)) ks) ≡ number (a + total (map (λ k. getD cs k 0) ks))
+    → sumFrom (number a) (map (λ k. getD (map number cs) k (number 0)) ks)
+    ≡ number (a + total (map (λ k. getD cs k 0) ks))
 unfolding total
 sum-cells cs a [] h = ap number (sym (add-zero a))
 sum-cells cs a (k ∷ ks) h =
@@ -36,24 +37,32 @@ unfolding distinct
 proper [] = true
 proper (class ∷ cs) = distinct class && proper cs
 
-module _ (m : ℕ) (at : ℕ → ℕ) (below : (x : ℕ) → at x < m) (letters : List ℕ) (short : length letters ≤ 2 ^ 53) where
+module _ (m : ℕ) (at : ℕ → ℕ) (below : (x : ℕ) → at x < m) (letters : List ℕ)
+    (short : length letters ≤ 2 ^ 53) where
   one-class : (class : List ℕ) → T (distinct class)
-      → classSum (map number (tallied (range 0 m) (map at letters))) class ≡ number (howMany (λ letter. oneOf class (at letter)) letters)
+      → classSum (map number (tallied (range 0 m) (map at letters))) class
+      ≡ number (howMany (λ letter. oneOf class (at letter)) letters)
   unfolding classSum
   one-class class d =
       let cs = tallied (range 0 m) (map at letters) in
       let n : total (map (λ k. getD cs k 0) class) ≡ howMany (λ letter. oneOf class (at letter)) letters =
-      ap total (tally-cells m at below letters class) ∙ total-tally class (map at letters) d ∙ howMany-map (oneOf class) at letters in
+      ap total (tally-cells m at below letters class)
+      ∙ total-tally class (map at letters) d
+      ∙ howMany-map (oneOf class) at letters in
       rw none
       (sum-cells cs 0 class (omega (arith, n, howMany-le (λ letter. oneOf class (at letter)) letters)) ∙ ap number (zero-add _ ∙ n))
 
   pub sums-of : (cs : List (List ℕ)) → T (proper cs)
-      → map (classSum (map number (tallied (range 0 m) (map at letters)))) cs ≡ map number (map (λ class. howMany (λ letter. oneOf class (at letter)) letters) cs)
+      → map (classSum (map number (tallied (range 0 m) (map at letters)))) cs
+      ≡ map number (map (λ class. howMany (λ letter. oneOf class (at letter)) letters) cs)
   unfolding proper
   sums-of [] t = refl
-  sums-of (class ∷ cs) t = let u = and-yes (distinct class) (proper cs) t in rw (one-class class (u .0), sums-of cs (u .1))
+  sums-of (class ∷ cs) t =
+      let u = and-yes (distinct class) (proper cs) t in
+      rw (one-class class (u .0), sums-of cs (u .1))
 
-pub class-sums : (letters : List ℕ) → length letters < 2 ^ 32 → classSums (map number (columnCounts letters)) ≡ map number (classCounts letters)
+pub class-sums : (letters : List ℕ) → length letters < 2 ^ 32
+    → classSums (map number (columnCounts letters)) ≡ map number (classCounts letters)
 unfolding classSums classCounts proper columnCounts
 class-sums letters h = sums-of 22 classNumber column-below letters (omega arith) classes tt
 
@@ -62,6 +71,8 @@ unfolding classCounts
 length-classCounts letters = refl
 
 -- what came back from writing the class counts
-pub classes-written : (letters : List ℕ) (cells rest back : List Float) → length letters < 2 ^ 32 → back ≡ classSums cells ++ rest → cells ≡ map number (columnCounts letters)
+pub classes-written : (letters : List ℕ) (cells rest back : List Float) → length letters < 2 ^ 32
+    → back ≡ classSums cells ++ rest → cells ≡ map number (columnCounts letters)
     → back ≡ map number (classCounts letters) ++ rest
-classes-written letters cells rest back l e h = e ∙ ap (λ (t : List Float). t ++ rest) (ap classSums h ∙ class-sums letters l)
+classes-written letters cells rest back l e h =
+    e ∙ ap (λ (t : List Float). t ++ rest) (ap classSums h ∙ class-sums letters l)

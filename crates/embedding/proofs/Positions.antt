@@ -19,7 +19,8 @@ use Rattle.embedding.specs.Design.{everywhere, nTerminal, cTerminal, cho
 
 module _ {A : Type 0} where
   picked-from : (p : ℕ → Bool) (f t i : ℕ) (xs : List A)
-      → ((j : ℕ) → i ≤ j → j < i + length xs → p j ≡ leb f j && ltb j t) → picked p i xs ≡ drop (f - i) (take (t - i) xs)
+      → ((j : ℕ) → i ≤ j → j < i + length xs → p j ≡ leb f j && ltb j t)
+      → picked p i xs ≡ drop (f - i) (take (t - i) xs)
   unfolding picked
   picked-from p f t i [] h = sym (rw (take-nil, drop-nil))
   picked-from p f t i (x ∷ xs) h =
@@ -33,7 +34,8 @@ module _ {A : Type 0} where
           rw (u, v) (drop-nil (f - suc i) ∙ sym (drop-nil (f - i)))
 
       by : (a b : Bool) → leb f i ≡ a → ltb i t ≡ b
-          → cond (a && b) (x ∷ drop (f - suc i) (take (t - suc i) xs)) (drop (f - suc i) (take (t - suc i) xs)) ≡ drop (f - i) (take (t - i) (x ∷ xs))
+          → cond (a && b) (x ∷ drop (f - suc i) (take (t - suc i) xs)) (drop (f - suc i) (take (t - suc i) xs))
+          ≡ drop (f - i) (take (t - i) (x ∷ xs))
       by true true e g =
           let l = leb-true f i e in
           let r = ltb-true i t g in
@@ -54,7 +56,9 @@ module _ {A : Type 0} where
   pub picked-range : (p : ℕ → Bool) (f t : ℕ) (xs : List A)
       → ((j : ℕ) → j < length xs → p j ≡ leb f j && ltb j t) → picked p 0 xs ≡ drop f (take t xs)
   picked-range p f t xs h =
-      picked-from p f t 0 xs (λ j l r. h j (omega arith)) ∙ ap (λ (k : ℕ). drop k (take (t - 0) xs)) (sub-zero f) ∙ ap (λ (k : ℕ). drop f (take k xs)) (sub-zero t)
+      picked-from p f t 0 xs (λ j l r. h j (omega arith))
+      ∙ ap (λ (k : ℕ). drop k (take (t - 0) xs)) (sub-zero f)
+      ∙ ap (λ (k : ℕ). drop f (take k xs)) (sub-zero t)
 
 -- ---- the selections of a peptide's positions
 
@@ -99,7 +103,8 @@ eq→eqb a b e = rw e (eqb-refl b)
 le→nltb : (a b : ℕ) → b ≤ a → T (not (ltb a b))
 le→nltb a b h = rw (le-ltb a b h) tt
 
-c-range : (model : Model) (n j : ℕ) → j < n → cTerminal model n j ≡ leb (2 + (endOf model n - 4)) j && ltb j (endOf model n)
+c-range : (model : Model) (n j : ℕ) → j < n
+    → cTerminal model n j ≡ leb (2 + (endOf model n - 4)) j && ltb j (endOf model n)
 unfolding endOf
 c-range Retention n j h = same-test _ _ to from
   where
@@ -138,7 +143,8 @@ c-range Mobility n j h = same-test _ _ to from
         yes-and (not (ltb j 2)) (ltb (n - 3) j) (le→nltb j 2 (omega arith)) (lt→ltb (n - 3) j (omega arith))
 
 pub chosen-c : (model : Model) (letters : List ℕ)
-    → chosen (cTerminal model) letters ≡ drop (2 + (endOf model (length letters) - 4)) (take (endOf model (length letters)) letters)
+    → chosen (cTerminal model) letters
+    ≡ drop (2 + (endOf model (length letters) - 4)) (take (endOf model (length letters)) letters)
 unfolding chosen
 chosen-c model letters = picked-range _ _ _ letters (λ j h. c-range model (length letters) j h)
 
@@ -152,4 +158,5 @@ chosen-le sel letters = from 0 letters
 
     from : (i : ℕ) (xs : List ℕ) → length (picked (sel (length letters)) i xs) ≤ length xs
     from i [] = omega arith
-    from i (x ∷ xs) = by (sel (length letters) i) x (picked (sel (length letters)) (suc i) xs) (length xs) (from (suc i) xs)
+    from i (x ∷ xs) =
+        by (sel (length letters) i) x (picked (sel (length letters)) (suc i) xs) (length xs) (from (suc i) xs)

@@ -22,12 +22,14 @@ use Rattle.embedding.proofs.Positions.{chosen-everywhere, chosen-n, cho
 
 -- The counts of a selection of positions, whichever it is, total the number of positions selected: each letter has one
 -- of the 22 columns.
-pub total-counts : (sel : ℕ → ℕ → Bool) (letters : List ℕ) → total (counts sel letters) ≡ length (chosen sel letters)
+pub total-counts : (sel : ℕ → ℕ → Bool) (letters : List ℕ)
+    → total (counts sel letters) ≡ length (chosen sel letters)
 unfolding counts distinct
 total-counts sel letters =
     total-tally (range 0 22) (map columnOf (chosen sel letters)) tt
     ∙ howMany-map (oneOf (range 0 22)) columnOf (chosen sel letters)
-    ∙ howMany-all (λ x. oneOf (range 0 22) (columnOf x)) (chosen sel letters) (λ x. ap (oneOf (range 0 22)) (sym (zero-add (columnOf x))) ∙ one-of-range 0 22 (columnOf x) (column-below x))
+    ∙ howMany-all (λ x. oneOf (range 0 22) (columnOf x)) (chosen sel letters)
+    (λ x. ap (oneOf (range 0 22)) (sym (zero-add (columnOf x))) ∙ one-of-range 0 22 (columnOf x) (column-below x))
 
 -- how many C-terminal positions a peptide of length n has: n less 3 or n less 2, at most 2, and never below 0
 abbrev pub cTerminals : Model → ℕ → ℕ
@@ -40,7 +42,8 @@ length-everywhere letters = ap length (chosen-everywhere letters)
 pub length-n : (letters : List ℕ) → length (chosen nTerminal letters) ≡ min (length letters) 2
 length-n letters = ap length (chosen-n letters) ∙ length-take 2 letters ∙ omega arith
 
-pub length-c : (model : Model) (letters : List ℕ) → length (chosen (cTerminal model) letters) ≡ cTerminals model (length letters)
+pub length-c : (model : Model) (letters : List ℕ)
+    → length (chosen (cTerminal model) letters) ≡ cTerminals model (length letters)
 unfolding endOf
 length-c Retention letters = ap length (chosen-c Retention letters) ∙ simp (length-drop, length-take) (omega arith)
 length-c Mobility letters = ap length (chosen-c Mobility letters) ∙ simp (length-drop, length-take) (omega arith)
@@ -59,11 +62,14 @@ pub record Totals (model : Model) (n : ℕ) (row : List Float) : Type 0 where
   pub first : Block (nTerminalAt model) (min n 2) row
   pub last : Block (cTerminalAt model) (cTerminals model n) row
 
-held : (sel : ℕ → ℕ → Bool) (letters : List ℕ) (at n : ℕ) (row : List Float) → take 22 (drop at row) ≡ block sel letters → length (chosen sel letters) ≡ n → Block at n row
+held : (sel : ℕ → ℕ → Bool) (letters : List ℕ) (at n : ℕ) (row : List Float)
+    → take 22 (drop at row) ≡ block sel letters → length (chosen sel letters) ≡ n → Block at n row
 unfolding block
-held sel letters at n row e l = record { numbers = counts sel letters; cells = e; totals = total-counts sel letters ∙ l }
+held sel letters at n row e l =
+    record { numbers = counts sel letters; cells = e; totals = total-counts sel letters ∙ l }
 
-pub totals : (model : Model) (letters : List ℕ) (log mass : Float) (charge : ℕ) → Totals model (length letters) (design model letters log mass charge)
+pub totals : (model : Model) (letters : List ℕ) (log mass : Float) (charge : ℕ)
+    → Totals model (length letters) (design model letters log mass charge)
 unfolding design
 totals Retention letters log mass charge = record {
   columns = refl;

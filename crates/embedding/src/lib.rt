@@ -16,6 +16,11 @@ pub enum Model {
     Mobility,
 }
 
+// How many columns a model's row has, for arrays of coefficients.
+pub const RETENTION_FEATURES: usize = retention_model::FEATURES;
+
+pub const MOBILITY_FEATURES: usize = mobility_model::FEATURES;
+
 // How many columns a model's row has.
 pub fn order(model: Model) -> usize
     ensures { λ r. ⌜ r ≡ orderOf model ⌝ }

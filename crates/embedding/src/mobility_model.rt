@@ -90,7 +90,8 @@ fn put_scalars(length: u32, mass: f32, charge: u8, row: &mut [f64])
 pub(crate) fn embed(letters: &[u8], mass: f32, charge: u8, row: &mut [f64])
     requires { ⌜ length (now letters) < 2 ^ 32 ⌝ }
     requires { ⌜ 100 ≤ length (now row) ⌝ }
-    ensures { λ _. ⌜ now (row .exit) ≡ mobilityRow (now (letters .entry)) mass charge ++ drop 100 (now (row .entry)) ⌝ }
+    ensures { λ _. ⌜ now (row .exit)
+        ≡ mobilityRow (now (letters .entry)) mass charge ++ drop 100 (now (row .entry)) ⌝ }
 {
     let n = letters.len() as u32;
     let mut counts = [0.0f64; 22];

@@ -11,7 +11,8 @@ ghost use Rattle.embedding.specs.Design.{chosen, nTerminal, columnCounts
 pub(crate) fn embed_part(part: &[u8], row: &mut [f64])
     requires { ⌜ length (now part) < 2 ^ 32 ⌝ }
     requires { ⌜ 22 ≤ length (now row) ⌝ }
-    ensures { λ _. ⌜ now (row .exit) ≡ map number (columnCounts (now (part .entry))) ++ drop 22 (now (row .entry)) ⌝ }
+    ensures { λ _. ⌜ now (row .exit)
+        ≡ map number (columnCounts (now (part .entry))) ++ drop 22 (now (row .entry)) ⌝ }
 {
     matrix::zeros(&mut row[0..22]);
     let mut i = 0;
@@ -37,7 +38,8 @@ pub(crate) fn put_counts(counts: &[f64], row: &mut [f64])
 // Writes the counts' shares of `length` letters into the first cells of `row`.
 pub(crate) fn put_shares(counts: &[f64], length: u32, row: &mut [f64])
     requires { ⌜ lib.ListN.length (now counts) ≤ lib.ListN.length (now row) ⌝ }
-    ensures { λ _. ⌜ now (row .exit) ≡ overwritten (map (shareOf length) (now (counts .entry))) (now (row .entry)) ⌝ }
+    ensures { λ _. ⌜ now (row .exit)
+        ≡ overwritten (map (shareOf length) (now (counts .entry))) (now (row .entry)) ⌝ }
 {
     let whole = float::u32_to_f64(length);
     let mut k = 0;

@@ -27,7 +27,8 @@ fn c_terminal(letters: &[u8]) -> &[u8]
 // Writes the columns after the counts: length, logged mass, intercept.
 fn put_scalars(length: u32, log: f64, row: &mut [f64])
     requires { ⌜ 3 ≤ lib.ListN.length (now row) ⌝ }
-    ensures { λ _. ⌜ now (row .exit) ≡ (number length ∷ log ∷ number 1 ∷ []) ++ drop 3 (now (row .entry)) ⌝ }
+    ensures { λ _. ⌜ now (row .exit)
+        ≡ (number length ∷ log ∷ number 1 ∷ []) ++ drop 3 (now (row .entry)) ⌝ }
 {
     row[0] = float::u32_to_f64(length);
     row[1] = log;

@@ -168,7 +168,9 @@ examples =
     ∷ record { given = longest (oneFile 1 (0xC040_0000 ∷ [])); said = 0 ∷ [] }
     -- "5E9 gives 4,294,967,295, in f32 4,294,967,296", of which the bits are 4F800000
     ∷ record {
-      given = longest (oneFile 1 (0x4F95_02F9 ∷ [])) ++ bits binary32 (after (oneFile 1 (0x4F95_02F9 ∷ [])) .records .maxRt);
+      given =
+          let i = oneFile 1 (0x4F95_02F9 ∷ []) in
+          longest i ++ bits binary32 (after i .records .maxRt);
       said = 4_294_967_295 ∷ 0x4F80_0000 ∷ [];
     }
     -- "no rows: slope 1, intercept 0, longest 0", without peptides and with one

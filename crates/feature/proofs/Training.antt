@@ -95,7 +95,8 @@ module _ {A : Type 0} where
   length-tail n [] e = absurd (suc-ne-zero n (sym e))
   length-tail n (x ∷ xs) e = suc-inj e
 
-  head-and-tail : (n : ℕ) (d : A) (xs t : List A) → length xs ≡ suc n → t ≡ tail xs → headD xs d ∷ t ≡ xs
+  head-and-tail : (n : ℕ) (d : A) (xs t : List A) → length xs ≡ suc n → t ≡ tail xs
+      → headD xs d ∷ t ≡ xs
   unfolding headD
   head-and-tail n d [] t e r = absurd (suc-ne-zero n (sym e))
   head-and-tail n d (x ∷ xs) t e r = ap (λ (u : List A). x ∷ u) r

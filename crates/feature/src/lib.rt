@@ -1,4 +1,5 @@
-// A row of sage's Feature, as far as the models read it: which rows train. A row's fields lie in columns, one slice for each.
+// A row of sage's Feature, as far as the models read it: which rows train. A row's fields lie in columns, one slice for
+// each.
 ghost use mathlib.Core.Path.{_≡_};
 ghost use Rattle.feature.specs.Feature.{trains};
 

@@ -46,18 +46,21 @@ pub value-digit : (d : ℕ) → d < 16 → digitValue (hexDigit d) ≡ d
 unfolding hexDigit
 value-digit d h = go (ltb d 10) (ltb-true d 10) (ltb-false d 10)
   where
-    go : (t : Bool) → (t ≡ true → d < 10) → (t ≡ false → 10 ≤ d) → digitValue (cond t (48 + d) (55 + d)) ≡ d
+    go : (t : Bool) → (t ≡ true → d < 10) → (t ≡ false → 10 ≤ d)
+        → digitValue (cond t (48 + d) (55 + d)) ≡ d
     go true l g = let b = l refl in value-decimal (48 + d) (omega arith) (omega arith) ∙ omega arith
     go false l g = let b = g refl in value-letter (55 + d) (omega arith) (omega arith) ∙ omega arith
 
 within : (c a b : ℕ) → (leb a c && leb c b) ≡ true → (a ≤ c) × (c ≤ b)
 within c a b h = let t = and-true (leb a c) (leb c b) h in (leb-true a c (t .0), leb-true c b (t .1))
 
-pub value-none : (c : ℕ) → (48 ≤ c → c ≤ 57 → ⊥) → (65 ≤ c → c ≤ 70 → ⊥) → digitValue c ≡ 16
+pub value-none : (c : ℕ) → (48 ≤ c → c ≤ 57 → ⊥) → (65 ≤ c → c ≤ 70 → ⊥)
+    → digitValue c ≡ 16
 unfolding digitValue
 value-none c n m = go (leb 48 c && leb c 57) (leb 65 c && leb c 70) (within c 48 57) (within c 65 70)
   where
-    go : (t u : Bool) → (t ≡ true → (48 ≤ c) × (c ≤ 57)) → (u ≡ true → (65 ≤ c) × (c ≤ 70)) → cond t (c - 48) (cond u (c - 55) 16) ≡ 16
+    go : (t u : Bool) → (t ≡ true → (48 ≤ c) × (c ≤ 57)) → (u ≡ true → (65 ≤ c) × (c ≤ 70))
+        → cond t (c - 48) (cond u (c - 55) 16) ≡ 16
     go true u l g = absurd (n (l refl .0) (l refl .1))
     go false true l g = absurd (m (g refl .0) (g refl .1))
     go false false l g = refl
@@ -66,10 +69,15 @@ pub digit-value : (c : ℕ) → digitValue c < 16 → hexDigit (digitValue c) �
 unfolding digitValue hexDigit
 digit-value c = go (leb 48 c && leb c 57) (leb 65 c && leb c 70) (within c 48 57) (within c 65 70)
   where
-    go : (t u : Bool) → (t ≡ true → (48 ≤ c) × (c ≤ 57)) → (u ≡ true → (65 ≤ c) × (c ≤ 70)) → cond t (c - 48) (cond u (c - 55) 16) < 16
+    go : (t u : Bool) → (t ≡ true → (48 ≤ c) × (c ≤ 57)) → (u ≡ true → (65 ≤ c) × (c ≤ 70))
+        → cond t (c - 48) (cond u (c - 55) 16) < 16
         → hexDigit (cond t (c - 48) (cond u (c - 55) 16)) ≡ c
-    go true u l g h = let b = l refl in ap (λ (x : Bool). cond x (48 + (c - 48)) (55 + (c - 48))) (lt-ltb (c - 48) 10 (omega arith)) ∙ omega arith
-    go false true l g h = let b = g refl in ap (λ (x : Bool). cond x (48 + (c - 55)) (55 + (c - 55))) (le-ltb (c - 55) 10 (omega arith)) ∙ omega arith
+    go true u l g h =
+        let b = l refl in
+        ap (λ (x : Bool). cond x (48 + (c - 48)) (55 + (c - 48))) (lt-ltb (c - 48) 10 (omega arith)) ∙ omega arith
+    go false true l g h =
+        let b = g refl in
+        ap (λ (x : Bool). cond x (48 + (c - 55)) (55 + (c - 55))) (le-ltb (c - 55) 10 (omega arith)) ∙ omega arith
     go false false l g h = absurd (omega arith)
 
 -- ---- the last k digits of a number
@@ -83,7 +91,9 @@ unfolding hexOf allHex
 allHex-hexOf zero v = refl
 allHex-hexOf (suc k) v =
     let d : v / 16 ^ k % 16 < 16 = omega arith in
-    ap₂ (λ (s t : Bool). s && t) (lt-ltb (digitValue (hexDigit (v / 16 ^ k % 16))) 16 (omega (arith, value-digit (v / 16 ^ k % 16) d))) (allHex-hexOf k v)
+    ap₂ (λ (s t : Bool). s && t)
+    (lt-ltb (digitValue (hexDigit (v / 16 ^ k % 16))) 16 (omega (arith, value-digit (v / 16 ^ k % 16) d)))
+    (allHex-hexOf k v)
 
 -- what stands above them does not count
 above : (k q w : ℕ) → hexOf k (q * 16 ^ k + w) ≡ hexOf k w
@@ -91,8 +101,10 @@ unfolding hexOf
 above zero q w = refl
 above (suc k) q w =
     let p = 16 ^ k in
-    let x : q * 16 ^ suc k + w ≡ q * 16 * p + w = ap (λ (y : ℕ). q * y + w) (pow-succ' 16 k) ∙ ap (λ (y : ℕ). y + w) (sym (mul-assoc q 16 p)) in
-    let d : (q * 16 * p + w) / p ≡ w / p + q * 16 = ap (λ (y : ℕ). y / p) (add-comm (q * 16 * p) w) ∙ add-mul-div-right w (q * 16) (pow-pos k) in
+    let x : q * 16 ^ suc k + w ≡ q * 16 * p + w =
+    ap (λ (y : ℕ). q * y + w) (pow-succ' 16 k) ∙ ap (λ (y : ℕ). y + w) (sym (mul-assoc q 16 p)) in
+    let d : (q * 16 * p + w) / p ≡ w / p + q * 16 =
+    ap (λ (y : ℕ). y / p) (add-comm (q * 16 * p) w) ∙ add-mul-div-right w (q * 16) (pow-pos k) in
     let m : (w / p + q * 16) % 16 ≡ w / p % 16 = omega arith in
     ap (λ (y : ℕ). hexDigit (y / p % 16) ∷ hexOf k y) x
     ∙ ap₂ (λ (y : ℕ) (s : List ℕ). hexDigit y ∷ s) (ap (λ (y : ℕ). y % 16) d ∙ m) (above k (q * 16) w)
@@ -112,7 +124,8 @@ hexOf-front l (suc j) n v p h e q =
     let b : j < length l = omega arith in
     ap (λ (x : ℕ). drop x (set l x a)) m
     ∙ drop-cons (set l j a) j 0 (lt-length-set l j a b)
-    ∙ ap₂ (λ (x : ℕ) (t : List ℕ). x ∷ t) (getD-set-same l j a 0 b) (drop-set-lt (suc j) l j a (omega arith) ∙ q)
+    ∙ ap₂ (λ (x : ℕ) (t : List ℕ). x ∷ t) (getD-set-same l j a 0 b)
+    (drop-set-lt (suc j) l j a (omega arith) ∙ q)
     ∙ ap (λ (x : ℕ). hexOf x v) (sym k)
     ∙ ap (λ (x : ℕ). hexOf (n - x) v) (sym m)
 
@@ -143,7 +156,8 @@ pub hexValue-lt : (s : List ℕ) → allHex s ≡ true → hexValue s < 16 ^ len
 unfolding hexValue
 hexValue-lt [] h = omega arith
 hexValue-lt (c ∷ s) h =
-    subst (λ (y : ℕ). digitValue c * 16 ^ length s + hexValue s < y) (sym (pow-succ' 16 (length s))) (digits-lt (first c s h) (hexValue-lt s (others c s h)))
+    subst (λ (y : ℕ). digitValue c * 16 ^ length s + hexValue s < y) (sym (pow-succ' 16 (length s)))
+    (digits-lt (first c s h) (hexValue-lt s (others c s h)))
 
 pub hexOf-hexValue : (s : List ℕ) → allHex s ≡ true → hexOf (length s) (hexValue s) ≡ s
 unfolding hexOf hexValue
@@ -151,7 +165,9 @@ hexOf-hexValue [] h = refl
 hexOf-hexValue (c ∷ s) h =
     let d = digitValue c in
     let l = hexValue-lt s (others c s h) in
-    ap₂ (λ (x : ℕ) (t : List ℕ). hexDigit x ∷ t) (ap (λ (y : ℕ). y % 16) (digits-div d l) ∙ mod-eq-of-lt (first c s h)) (above (length s) d (hexValue s) ∙ hexOf-hexValue s (others c s h))
+    ap₂ (λ (x : ℕ) (t : List ℕ). hexDigit x ∷ t)
+    (ap (λ (y : ℕ). y % 16) (digits-div d l) ∙ mod-eq-of-lt (first c s h))
+    (above (length s) d (hexValue s) ∙ hexOf-hexValue s (others c s h))
     ∙ ap (λ (x : ℕ). x ∷ s) (digit-value c (first c s h))
 
 -- ---- the digits that are left, from the i-th on
@@ -164,14 +180,17 @@ module _ (s : List ℕ) (i : ℕ) (h : i < length s) where
   allHex-drop = ap allHex next
 
   -- v so far
-  pub hexValue-drop : (v : ℕ) → v * 16 ^ length (drop i s) + hexValue (drop i s) ≡ (v * 16 + digitValue (getD s i 0)) * 16 ^ length (drop (i + 1) s) + hexValue (drop (i + 1) s)
+  pub hexValue-drop : (v : ℕ)
+      → v * 16 ^ length (drop i s) + hexValue (drop i s)
+      ≡ (v * 16 + digitValue (getD s i 0)) * 16 ^ length (drop (i + 1) s) + hexValue (drop (i + 1) s)
   unfolding hexValue
   hexValue-drop v =
       let d = digitValue (getD s i 0) in
       let t = drop (i + 1) s in
       let p = 16 ^ length t in
       ap (λ (x : List ℕ). v * 16 ^ length x + hexValue x) next
-      ∙ ap (λ (x : ℕ). x + (d * p + hexValue t)) (ap (λ (x : ℕ). v * x) (pow-succ' 16 (length t)) ∙ sym (mul-assoc v 16 p))
+      ∙ ap (λ (x : ℕ). x + (d * p + hexValue t))
+      (ap (λ (x : ℕ). v * x) (pow-succ' 16 (length t)) ∙ sym (mul-assoc v 16 p))
       ∙ sym (add-assoc (v * 16 * p) (d * p) (hexValue t))
       ∙ ap (λ (x : ℕ). x + hexValue t) (sym (add-mul (v * 16) d p))
 
@@ -185,7 +204,8 @@ lt-16-digits v i h k = lt-of-lt-of-le h (pow-le-pow-right {n = 16} (omega arith)
 pub readHex-hexOf : (k v : ℕ) → 1 ≤ k → k ≤ 16 → readHex (hexOf k v) ≡ Value (v % 16 ^ k)
 unfolding readHex
 readHex-hexOf k v h l =
-    ap (λ (n : ℕ). cond (leb 1 n && leb n 16 && allHex (hexOf k v)) (Value (hexValue (hexOf k v))) Malformed) (length-hexOf k v)
+    ap (λ (n : ℕ). cond (leb 1 n && leb n 16 && allHex (hexOf k v)) (Value (hexValue (hexOf k v))) Malformed)
+    (length-hexOf k v)
     ∙ simp (le-leb 1 k h, le-leb k 16 l, allHex-hexOf k v, hexValue-hexOf k v)
 
 -- what is known of a text that stands for v
@@ -199,16 +219,26 @@ pub record Reads (s : List ℕ) (v : ℕ) : Type 0 where
 
 pub readHex-reads : (s : List ℕ) (v : ℕ) → readHex s ≡ Value v → Reads s v
 unfolding readHex
-readHex-reads s v = go (leb 1 (length s)) (leb (length s) 16) (allHex s) (leb-true 1 (length s)) (leb-true (length s) 16) (λ e. e)
+readHex-reads s v =
+    go (leb 1 (length s)) (leb (length s) 16) (allHex s) (leb-true 1 (length s)) (leb-true (length s) 16) (λ e. e)
   where
     differ : Malformed ≡ Value v → ⊥
     differ h = let z : _≡_ {A = ℕ} 0 1 = cc in omega arith
 
-    go : (t u w : Bool) → (t ≡ true → 1 ≤ length s) → (u ≡ true → length s ≤ 16) → (w ≡ true → allHex s ≡ true) → cond (t && u && w) (Value (hexValue s)) Malformed ≡ Value v → Reads s v
+    go : (t u w : Bool) → (t ≡ true → 1 ≤ length s) → (u ≡ true → length s ≤ 16)
+        → (w ≡ true → allHex s ≡ true) → cond (t && u && w) (Value (hexValue s)) Malformed ≡ Value v
+        → Reads s v
     go true true true a b c h =
         let d = c refl in
         let e : hexValue s ≡ v = cc in
-        record { some = a refl; most = b refl; digits = d; value = e; below = subst (λ (x : ℕ). x < 16 ^ length s) e (hexValue-lt s d); back = ap (hexOf (length s)) (sym e) ∙ hexOf-hexValue s d }
+        record {
+          some = a refl;
+          most = b refl;
+          digits = d;
+          value = e;
+          below = subst (λ (x : ℕ). x < 16 ^ length s) e (hexValue-lt s d);
+          back = ap (hexOf (length s)) (sym e) ∙ hexOf-hexValue s d;
+        }
     go true true false a b c h = absurd (differ h)
     go true false w a b c h = absurd (differ h)
     go false u w a b c h = absurd (differ h)

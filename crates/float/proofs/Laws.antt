@@ -53,25 +53,33 @@ use Rattle.float.proofs.Nan.{pattern-nan}
 pub value-back : (f : Format) (x : Float) → T (fits f x) → ofBits f (toBits f x) ≡ x
 value-back = ofBits-toBits
 
-pub pattern-back : (f : Format) (b : ℕ) → b < 2 * top f → toBits f (ofBits f b) ≡ cond (nanBits f b) (toBits f nan) b
-pattern-back f b h = go (nanBits f b) (λ t. pattern-nan f b t) (λ t. toBits-ofBits f b h (subst (λ (u : Bool). T (not u)) (nanBits-is f b) t))
+pub pattern-back : (f : Format) (b : ℕ) → b < 2 * top f
+    → toBits f (ofBits f b) ≡ cond (nanBits f b) (toBits f nan) b
+pattern-back f b h =
+    go (nanBits f b) (λ t. pattern-nan f b t)
+    (λ t. toBits-ofBits f b h (subst (λ (u : Bool). T (not u)) (nanBits-is f b) t))
   where
-    go : (t : Bool) → (T t → ofBits f b ≡ nan) → (T (not t) → toBits f (ofBits f b) ≡ b) → toBits f (ofBits f b) ≡ cond t (toBits f nan) b
+    go : (t : Bool) → (T t → ofBits f b ≡ nan) → (T (not t) → toBits f (ofBits f b) ≡ b)
+        → toBits f (ofBits f b) ≡ cond t (toBits f nan) b
     go true n m = ap (toBits f) (n tt)
     go false n m = m tt
 
 -- ---- two values of one format and one sign that are one number
-same-bits : (f : Format) (s : Bool) (m : ℕ) (e : ℤ) (n : ℕ) (d : ℤ) → m * up e * down d ≡ n * up d * down e → toBits f (fin s m e) ≡ toBits f (fin s n d)
+same-bits : (f : Format) (s : Bool) (m : ℕ) (e : ℤ) (n : ℕ) (d : ℤ) → m * up e * down d ≡ n * up d * down e
+    → toBits f (fin s m e) ≡ toBits f (fin s n d)
 unfolding toBits
 same-bits f s m e n d h =
     let l = 2 ^ low f in
     ap (λ (y : ℕ). cond s (top f) 0 + (size y - prec f) * hid f + y / 2 ^ (size y - prec f))
     (div-same (m * up e * l) (down e) (n * up d * l) (down d) (down-pos e) (down-pos d) (mul-right-comm (m * up e) l (down d) ∙ ap (λ (y : ℕ). y * l) h ∙ mul-right-comm (n * up d) (down e) l))
 
-pub same-value : (f : Format) (s : Bool) (m : ℕ) (e : ℤ) (n : ℕ) (d : ℤ) → T (fits f (fin s m e)) → T (fits f (fin s n d)) → m * up e * down d ≡ n * up d * down e → fin s m e ≡ fin s n d
-same-value f s m e n d p q h = sym (ofBits-toBits f (fin s m e) p) ∙ ap (ofBits f) (same-bits f s m e n d h) ∙ ofBits-toBits f (fin s n d) q
+pub same-value : (f : Format) (s : Bool) (m : ℕ) (e : ℤ) (n : ℕ) (d : ℤ) → T (fits f (fin s m e))
+    → T (fits f (fin s n d)) → m * up e * down d ≡ n * up d * down e → fin s m e ≡ fin s n d
+same-value f s m e n d p q h =
+    sym (ofBits-toBits f (fin s m e) p) ∙ ap (ofBits f) (same-bits f s m e n d h) ∙ ofBits-toBits f (fin s n d) q
 
-of-value : (f : Format) (x : Float) (s : Bool) (m : ℕ) (e : ℤ) → T (fits f x) → T (fits f (fin s m e)) → HasValue x s (m * up e) (down e) → x ≡ fin s m e
+of-value : (f : Format) (x : Float) (s : Bool) (m : ℕ) (e : ℤ) → T (fits f x) → T (fits f (fin s m e))
+    → HasValue x s (m * up e) (down e) → x ≡ fin s m e
 of-value f nan s m e p q v = absurd v
 of-value f (inf t) s m e p q v = absurd v
 of-value f (fin t n d) s m e p q v =
@@ -92,11 +100,16 @@ grid-is l (negsuc k) h =
 
 -- where u times d is 1, d is 1
 flat : (u d : ℕ) → 0 < u → u * d ≡ 1 → {p : ℕ} → 0 < p → d ≤ p
-flat u d U h {p} P = le-trans (subst (λ (x : ℕ). d ≤ x) h (subst (λ (x : ℕ). x ≤ u * d) (one-mul d) (mul-le-mul-right d U))) P
+flat u d U h {p} P =
+    le-trans (subst (λ (x : ℕ). d ≤ x) h (subst (λ (x : ℕ). x ≤ u * d) (one-mul d) (mul-le-mul-right d U))) P
 
-module _ (f : Format) (s : Bool) (m : ℕ) (e : ℤ) (low-enough : down e ≤ 2 ^ low f) (short : m < 2 ^ prec f) (below : m * up e < 2 ^ suc (emax f) * down e) where
+module _ (f : Format) (s : Bool) (m : ℕ) (e : ℤ) (low-enough : down e ≤ 2 ^ low f) (short : m < 2 ^ prec f)
+    (below : m * up e < 2 ^ suc (emax f) * down e) where
   on-grid : m * up e * 2 ^ low f ≡ m * 2 ^ grid (low f) e * down e
-  on-grid = mul-assoc m (up e) (2 ^ low f) ∙ ap (λ (x : ℕ). m * x) (grid-is (low f) e low-enough) ∙ sym (mul-assoc m (2 ^ grid (low f) e) (down e))
+  on-grid =
+      mul-assoc m (up e) (2 ^ low f)
+      ∙ ap (λ (x : ℕ). m * x) (grid-is (low f) e low-enough)
+      ∙ sym (mul-assoc m (2 ^ grid (low f) e) (down e))
 
   in-range : m * 2 ^ grid (low f) e < 2 ^ (low f + suc (emax f))
   in-range =
@@ -109,9 +122,13 @@ module _ (f : Format) (s : Bool) (m : ℕ) (e : ℤ) (low-enough : down e ≤ 2 
   exact : HasValue (round f s (m * up e) (down e)) s (m * up e) (down e)
   exact = round-exact f s (m * up e) (down e) m (grid (low f) e) (down-pos e) short in-range on-grid
 
-fits-exact : (f : Format) (s : Bool) (m : ℕ) (e : ℤ) → T (fits f (fin s m e)) → HasValue (round f s (m * up e) (down e)) s (m * up e) (down e)
+fits-exact : (f : Format) (s : Bool) (m : ℕ) (e : ℤ) → T (fits f (fin s m e))
+    → HasValue (round f s (m * up e) (down e)) s (m * up e) (down e)
 unfolding fits
-fits-exact f s zero e h = exact f s 0 e (flat (up e) (down e) (up-pos e) (eqb→eq (up e * down e) 1 h) (pow-pos (low f))) (pow-pos (prec f)) (subst (λ (x : ℕ). x < 2 ^ suc (emax f) * down e) (sym (zero-mul (up e))) (mul-pos (pow-pos (suc (emax f))) (down-pos e)))
+fits-exact f s zero e h =
+    exact f s 0 e (flat (up e) (down e) (up-pos e) (eqb→eq (up e * down e) 1 h) (pow-pos (low f)))
+    (pow-pos (prec f))
+    (subst (λ (x : ℕ). x < 2 ^ suc (emax f) * down e) (sym (zero-mul (up e))) (mul-pos (pow-pos (suc (emax f))) (down-pos e)))
 fits-exact f s (suc m) e h =
     let a : Bool = eqb (suc m % 2) 1 in
     let b : Bool = ltb (suc m) (2 ^ prec f) in
@@ -122,8 +139,10 @@ fits-exact f s (suc m) e h =
     (ltb→lt (suc m) (2 ^ prec f) (and-r a b (and-l (a && b) c (and-l (a && b && c) d h))))
     (ltb→lt (suc m * up e) (2 ^ suc (emax f) * down e) (and-r (a && b && c) d h))
 
-pub round-fitting : (f : Format) (s : Bool) (m : ℕ) (e : ℤ) → T (fits f (fin s m e)) → round f s (m * up e) (down e) ≡ fin s m e
-round-fitting f s m e h = of-value f (round f s (m * up e) (down e)) s m e (round-fits f s (m * up e) (down e)) h (fits-exact f s m e h)
+pub round-fitting : (f : Format) (s : Bool) (m : ℕ) (e : ℤ) → T (fits f (fin s m e))
+    → round f s (m * up e) (down e) ≡ fin s m e
+round-fitting f s m e h =
+    of-value f (round f s (m * up e) (down e)) s m e (round-fits f s (m * up e) (down e)) h (fits-exact f s m e h)
 
 -- ---- narrowing
 pub narrowed-fits : (x : Float) → T (fits binary32 (narrowed x))

@@ -29,7 +29,8 @@ or-gt a b u e = go (ltb a b) u (ltb-false a b) e
     strict : b ≤ a → (a ≡ b → ⊥) → b < a
     strict l n = omega arith
 
-    go : (t u : Bool) → (t ≡ false → b ≤ a) → (a ≡ b → u ≡ true) → (t || (u && true)) ≡ false → b < a
+    go : (t u : Bool) → (t ≡ false → b ≤ a) → (a ≡ b → u ≡ true) → (t || (u && true)) ≡ false
+        → b < a
     go true u l e h = absurd (true≢false h)
     go false true l e h = absurd (true≢false h)
     go false false l e h = strict (l refl) (λ d. false≢true (e d))
@@ -43,7 +44,8 @@ flat (pos (suc k)) h = absurd (two-up (2 ^ k) (pow-pos k) (sym (pow-succ' 2 k) �
 flat (negsuc k) h = absurd (two-up (2 ^ k) (pow-pos k) (sym (pow-succ' 2 k) ∙ sym (one-mul (2 ^ suc k)) ∙ h))
 
 -- a zero that fits is written in one way
-pub zero-is : (f : Format) (s : Bool) (m : ℕ) (e : ℤ) → m ≡ 0 → T (fits f (fin s m e)) → fin false 0 (pos 0) ≡ fin false m e
+pub zero-is : (f : Format) (s : Bool) (m : ℕ) (e : ℤ) → m ≡ 0 → T (fits f (fin s m e))
+    → fin false 0 (pos 0) ≡ fin false m e
 unfolding fits
 zero-is f s zero e z t = ap (λ (d : ℤ). fin false 0 d) (sym (flat e (eqb→eq (up e * down e) 1 t)))
 zero-is f s (suc m) e z t = absurd (omega arith)

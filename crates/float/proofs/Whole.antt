@@ -19,7 +19,8 @@ crossed a b p q x y h k =
     ∙ sym (add-mul a b (p * q))
 
 -- by whole numbers that the terms equal
-add-whole : (f : Format) (x y : Float) (a b : ℕ) → HasValue x false a 1 → HasValue y false b 1 → add f x y ≡ round f false (a + b) 1
+add-whole : (f : Format) (x y : Float) (a b : ℕ) → HasValue x false a 1 → HasValue y false b 1
+    → add f x y ≡ round f false (a + b) 1
 unfolding add
 add-whole f nan y a b h k = absurd h
 add-whole f (inf s) y a b h k = absurd h
@@ -35,4 +36,5 @@ add-whole f (fin s m e) (fin t n d) a b h k =
 -- the whole numbers up to 2^53 among themselves
 pub number-add : (a b : ℕ) → a ≤ 2 ^ 53 → b ≤ 2 ^ 53 → add binary64 (number a) (number b) ≡ number (a + b)
 unfolding ofInt
-number-add a b h k = add-whole binary64 (number a) (number b) a b (round-whole binary64 false a h) (round-whole binary64 false b k)
+number-add a b h k =
+    add-whole binary64 (number a) (number b) a b (round-whole binary64 false a h) (round-whole binary64 false b k)

@@ -54,7 +54,8 @@ module _ (i : System) (s : Slices) (accept : status i s ≡ accepted) where
   checks =
       (badLengths, eqb (length (i .left)) (i .n * i .n) && eqb (length (i .right)) (i .n * i .c))
       ∷ (pastLimit, withinSystemLimits (i .n) (i .c))
-      ∷ (tooShort, leb (needed (i .n) (i .c)) (length (s .workspace)) && leb (outputs (i .n) (i .c)) (length (s .solution)))
+      ∷
+      (tooShort, leb (needed (i .n) (i .c)) (length (s .workspace)) && leb (outputs (i .n) (i .c)) (length (s .solution)))
       ∷ []
 
   check-at : (k : ℕ) → k < 3 → getD checks k (0, true) .1 ≡ true
@@ -106,7 +107,8 @@ module _ (i : System) (s : Slices) where
       rw e (record { answer = simp test; told = simp test; slices = simp test })
 
   -- the part of the output that was lent, in front of the rest
-  written-is : (x : Solution) (cells : List Float) → cells ≡ written x (parts .solution) → length cells ≡ outputs (i .n) (i .c)
+  written-is : (x : Solution) (cells : List Float) → cells ≡ written x (parts .solution)
+      → length cells ≡ outputs (i .n) (i .c)
       → cells ++ drop (outputs (i .n) (i .c)) (s .solution) ≡ solutionOver x (s .solution)
   written-is (solved eps x) cells e l = overwrite-front x cells (s .solution) (outputs (i .n) (i .c)) e l
   written-is unsolved cells e l =

@@ -29,10 +29,12 @@ unfolding columnOf validAa
 column-below b = place-below 22 0 b validAa (lit< tt) (omega arith)
 
 -- a byte that differs from each entry has no place
-place-none : (i b : ℕ) (xs : List ℕ) → ((k : ℕ) → k < length xs → b ≡ getD xs k 0 → ⊥) → placeFrom i b xs ≡ 0
+place-none : (i b : ℕ) (xs : List ℕ) → ((k : ℕ) → k < length xs → b ≡ getD xs k 0 → ⊥)
+    → placeFrom i b xs ≡ 0
 unfolding placeFrom
 place-none i b [] h = refl
-place-none i b (x ∷ xs) h = rw (ne-eqb b x (h 0 (omega arith))) (place-none (suc i) b xs (λ k l. h (suc k) (omega arith)))
+place-none i b (x ∷ xs) h =
+    rw (ne-eqb b x (h 0 (omega arith))) (place-none (suc i) b xs (λ k l. h (suc k) (omega arith)))
 
 -- each residue is a letter
 valid-letters : (k : ℕ) → k < length validAa → T (isLetter (getD validAa k 0))
@@ -47,7 +49,8 @@ column-outside b o = place-none 0 b validAa (λ k h e. outside (rw (← e) at (v
     outside : T (isLetter b) → ⊥
     outside t =
         let l = and-both (leb 65 b) (leb b 90) t in
-        ⊎-elim (λ (h : b < 65). omega (arith, leb→le 65 b (l .0))) (λ (h : 90 < b). omega (arith, leb→le b 90 (l .1))) o
+        ⊎-elim (λ (h : b < 65). omega (arith, leb→le 65 b (l .0)))
+        (λ (h : 90 < b). omega (arith, leb→le b 90 (l .1))) o
 
 -- the residue at a place within the list, and past its end
 pub residue-in : (i : ℕ) (xs : List ℕ) → i < length xs → residueIn i xs ≡ Letter (getD xs i 0)

@@ -36,7 +36,8 @@ module _ {A B : Type 0} (g : A → B → A) where
   getD-zipped [] src k a b h l = absurd (not-suc-le-zero h)
   getD-zipped (d ∷ dst) [] k a b h l = absurd (not-suc-le-zero l)
   getD-zipped (d ∷ dst) (s ∷ src) zero a b h l = refl
-  getD-zipped (d ∷ dst) (s ∷ src) (suc k) a b h l = getD-zipped dst src k a b (le-of-suc-le-suc h) (le-of-suc-le-suc l)
+  getD-zipped (d ∷ dst) (s ∷ src) (suc k) a b h l =
+      getD-zipped dst src k a b (le-of-suc-le-suc h) (le-of-suc-le-suc l)
 
   -- the lists' last cells are done by themselves
   pub zipped-snoc : (xs : List A) (x : A) (ys : List B) (y : B) → length xs ≡ length ys
@@ -73,10 +74,13 @@ module _ {A : Type 0} where
   getD-tabulate (suc n) f (suc k) d h = getD-tabulate n (λ i. f (suc i)) k d (le-of-suc-le-suc h)
 
   -- two tables are equal by their cells
-  pub tabulate-same : (n : ℕ) (f g : ℕ → A) → ((i : ℕ) → i < n → f i ≡ g i) → tabulate n f ≡ tabulate n g
+  pub tabulate-same : (n : ℕ) (f g : ℕ → A) → ((i : ℕ) → i < n → f i ≡ g i)
+      → tabulate n f ≡ tabulate n g
   unfolding tabulate
   tabulate-same zero f g h = refl
-  tabulate-same (suc n) f g h = cc (h 0 (suc-le-suc zero-le), tabulate-same n (λ i. f (suc i)) (λ i. g (suc i)) (λ i l. h (suc i) (suc-le-suc l)))
+  tabulate-same (suc n) f g h =
+      cc
+      (h 0 (suc-le-suc zero-le), tabulate-same n (λ i. f (suc i)) (λ i. g (suc i)) (λ i l. h (suc i) (suc-le-suc l)))
 
   pub tabulate-constant : (n : ℕ) (a : A) → tabulate n (λ i. a) ≡ replicate n a
   unfolding tabulate
@@ -84,12 +88,14 @@ module _ {A : Type 0} where
   tabulate-constant (suc n) a = ap {B = List A} (λ r. a ∷ r) (tabulate-constant n a)
 
   -- a table with a list beside it that is long enough
-  pub zipped-tabulate : {B : Type 0} (g : A → B → A) (b : B) (n : ℕ) (f : ℕ → A) (xs : List B) → n ≤ length xs
+  pub zipped-tabulate : {B : Type 0} (g : A → B → A) (b : B) (n : ℕ) (f : ℕ → A) (xs : List B)
+      → n ≤ length xs
       → zipped g (tabulate n f) xs ≡ tabulate n (λ i. g (f i) (getD xs i b))
   unfolding tabulate zipped
   zipped-tabulate g b zero f xs h = refl
   zipped-tabulate g b (suc n) f [] h = absurd (not-suc-le-zero h)
-  zipped-tabulate g b (suc n) f (x ∷ xs) h = ap {B = List A} (λ r. g (f 0) x ∷ r) (zipped-tabulate g b n (λ i. f (suc i)) xs (le-of-suc-le-suc h))
+  zipped-tabulate g b (suc n) f (x ∷ xs) h =
+      ap {B = List A} (λ r. g (f 0) x ∷ r) (zipped-tabulate g b n (λ i. f (suc i)) xs (le-of-suc-le-suc h))
 
   pub wide-tabulate : (w n : ℕ) (f : ℕ → List A) → ((i : ℕ) → length (f i) ≡ w) → Wide w (tabulate n f)
   unfolding tabulate
@@ -105,32 +111,39 @@ module _ {A : Type 0} where
   overwrite-suc [] old k d h l = absurd (not-suc-le-zero h)
   overwrite-suc (x ∷ new) [] k d h l = absurd (not-suc-le-zero l)
   overwrite-suc (x ∷ new) (y ∷ old) zero d h l = refl
-  overwrite-suc (x ∷ new) (y ∷ old) (suc k) d h l = ap (λ (t : List A). x ∷ t) (overwrite-suc new old k d (le-of-suc-le-suc h) (le-of-suc-le-suc l))
+  overwrite-suc (x ∷ new) (y ∷ old) (suc k) d h l =
+      ap (λ (t : List A). x ∷ t) (overwrite-suc new old k d (le-of-suc-le-suc h) (le-of-suc-le-suc l))
 
   -- all cells
-  pub overwrite-all : (new old : List A) (k : ℕ) → length new ≡ k → take k new ++ drop k old ≡ overwritten new old
+  pub overwrite-all : (new old : List A) (k : ℕ) → length new ≡ k
+      → take k new ++ drop k old ≡ overwritten new old
   overwrite-all new old k e = rw (← e, take-length)
 
   -- a part that was lent and written comes back in front of the rest
-  pub overwrite-front : (new part old : List A) (k : ℕ) → part ≡ new → length part ≡ k → part ++ drop k old ≡ overwritten new old
+  pub overwrite-front : (new part old : List A) (k : ℕ) → part ≡ new → length part ≡ k
+      → part ++ drop k old ≡ overwritten new old
   overwrite-front new part old k e l = rw (← e, l)
 
   -- a part that was written over, in the whole
-  pub overwrite-part : (new old : List A) (k : ℕ) → length new ≤ k → k ≤ length old → overwritten new (take k old) ++ drop k old ≡ overwritten new old
+  pub overwrite-part : (new old : List A) (k : ℕ) → length new ≤ k → k ≤ length old
+      → overwritten new (take k old) ++ drop k old ≡ overwritten new old
   overwrite-part new old k h l =
       let n : ℕ = length new in
       let e : drop n (take k old) ++ drop k old ≡ drop n old =
-      sym (drop-append-le n (take k old) (drop k old) (rw (length-take-le k old l) h)) ∙ ap (drop n) (take-append-drop k old) in
+      sym (drop-append-le n (take k old) (drop k old) (rw (length-take-le k old l) h))
+      ∙ ap (drop n) (take-append-drop k old) in
       append-assoc new (drop n (take k old)) (drop k old) ∙ ap (λ (t : List A). new ++ t) e
 
   -- a list that is written over one of its length
   pub overwrite-whole : (new old : List A) → length new ≡ length old → overwritten new old ≡ new
-  overwrite-whole new old e = ap (λ (t : List A). new ++ t) (drop-of-length-le old {i = length new} (omega arith)) ∙ append-nil new
+  overwrite-whole new old e =
+      ap (λ (t : List A). new ++ t) (drop-of-length-le old {i = length new} (omega arith)) ∙ append-nil new
 
 -- ---- two lists zipped
 
 module _ {A B C : Type 0} (f : A → B → C) where
-  pub length-zipWith : (xs : List A) (ys : List B) → length xs ≤ length ys → length (zipWith f xs ys) ≡ length xs
+  pub length-zipWith : (xs : List A) (ys : List B) → length xs ≤ length ys
+      → length (zipWith f xs ys) ≡ length xs
   unfolding zipWith
   length-zipWith [] ys h = refl
   length-zipWith (x ∷ xs) [] h = absurd (not-suc-le-zero h)
@@ -142,10 +155,12 @@ module _ {A B C : Type 0} (f : A → B → C) where
   getD-zipWith [] ys k a b c h l = absurd (not-suc-le-zero h)
   getD-zipWith (x ∷ xs) [] k a b c h l = absurd (not-suc-le-zero l)
   getD-zipWith (x ∷ xs) (y ∷ ys) zero a b c h l = refl
-  getD-zipWith (x ∷ xs) (y ∷ ys) (suc k) a b c h l = getD-zipWith xs ys k a b c (le-of-suc-le-suc h) (le-of-suc-le-suc l)
+  getD-zipWith (x ∷ xs) (y ∷ ys) (suc k) a b c h l =
+      getD-zipWith xs ys k a b c (le-of-suc-le-suc h) (le-of-suc-le-suc l)
 
   -- a store in both
-  pub zipWith-set : (xs : List A) (ys : List B) (k : ℕ) (x : A) (y : B) → zipWith f (set xs k x) (set ys k y) ≡ set (zipWith f xs ys) k (f x y)
+  pub zipWith-set : (xs : List A) (ys : List B) (k : ℕ) (x : A) (y : B)
+      → zipWith f (set xs k x) (set ys k y) ≡ set (zipWith f xs ys) k (f x y)
   unfolding zipWith
   zipWith-set [] ys k x y = refl
   zipWith-set (a ∷ xs) [] zero x y = refl
@@ -160,14 +175,17 @@ module _ {A B C : Type 0} (f : A → B → C) where
   zipWith-none (x ∷ xs) = refl
 
   -- what follows in the second list does not matter where the first ends before
-  pub zipWith-append : (xs : List A) (ys more : List B) → length xs ≤ length ys → zipWith f xs (ys ++ more) ≡ zipWith f xs ys
+  pub zipWith-append : (xs : List A) (ys more : List B) → length xs ≤ length ys
+      → zipWith f xs (ys ++ more) ≡ zipWith f xs ys
   unfolding zipWith
   zipWith-append [] ys more h = refl
   zipWith-append (x ∷ xs) [] more h = absurd (not-suc-le-zero h)
-  zipWith-append (x ∷ xs) (y ∷ ys) more h = ap (λ (t : List C). f x y ∷ t) (zipWith-append xs ys more (le-of-suc-le-suc h))
+  zipWith-append (x ∷ xs) (y ∷ ys) more h =
+      ap (λ (t : List C). f x y ∷ t) (zipWith-append xs ys more (le-of-suc-le-suc h))
 
   -- two columns of one list of rows
-  pub zipWith-map : {R : Type 0} (g : R → A) (h : R → B) (rows : List R) → zipWith f (map g rows) (map h rows) ≡ map (λ r. f (g r) (h r)) rows
+  pub zipWith-map : {R : Type 0} (g : R → A) (h : R → B) (rows : List R)
+      → zipWith f (map g rows) (map h rows) ≡ map (λ r. f (g r) (h r)) rows
   unfolding zipWith
   zipWith-map g h [] = refl
   zipWith-map g h (r ∷ rows) = ap (λ (t : List C). f (g r) (h r) ∷ t) (zipWith-map g h rows)
@@ -180,11 +198,13 @@ module _ {A B : Type 0} where
   unfolding zip
   length-zip xs ys e = length-zipWith pair xs ys e
 
-  pub getD-zip : (xs : List A) (ys : List B) (k : ℕ) (a : A) (b : B) → k < length xs → k < length ys → getD (zip xs ys) k (a, b) ≡ (getD xs k a, getD ys k b)
+  pub getD-zip : (xs : List A) (ys : List B) (k : ℕ) (a : A) (b : B) → k < length xs → k < length ys
+      → getD (zip xs ys) k (a, b) ≡ (getD xs k a, getD ys k b)
   unfolding zip
   getD-zip xs ys k a b h l = getD-zipWith pair xs ys k a b (a, b) h l
 
-  pub zip-set : (xs : List A) (ys : List B) (k : ℕ) (x : A) (y : B) → zip (set xs k x) (set ys k y) ≡ set (zip xs ys) k (x, y)
+  pub zip-set : (xs : List A) (ys : List B) (k : ℕ) (x : A) (y : B)
+      → zip (set xs k x) (set ys k y) ≡ set (zip xs ys) k (x, y)
   unfolding zip
   zip-set xs ys k x y = zipWith-set pair xs ys k x y
 
@@ -204,4 +224,5 @@ module _ {A : Type 0} where
   pub flat-replicate : (n w : ℕ) (a : A) → flat (replicate n (replicate w a)) ≡ replicate (n * w) a
   unfolding flat
   flat-replicate zero w a = rw zero-mul
-  flat-replicate (suc n) w a = rw (flat-replicate n w a, suc-mul, add-comm (n * w) w) (replicate-append-replicate w (n * w) a)
+  flat-replicate (suc n) w a =
+      rw (flat-replicate n w a, suc-mul, add-comm (n * w) w) (replicate-append-replicate w (n * w) a)

@@ -34,7 +34,8 @@ module _ (D : ℕ) (ss : List Sample) where
   pub add-both : (held : Bool) (s : Sample) (row second cells cells₁ : List Float) → held ≡ true
       → length (s .row) ≡ D
       → take (D + 1) second ≡ extended s
-      → cells₁ ≡ withEquations D (addRow (addRow (equations D cells) (take (D + 1) row)) (take (D + 1) second)) cells
+      → cells₁
+      ≡ withEquations D (addRow (addRow (equations D cells) (take (D + 1) row)) (take (D + 1) second)) cells
       → Summed D held row cells ss
       → Summed D (not held) row cells₁ (ss ++ s ∷ [])
   add-both false s row second cells cells₁ t wide x e h = absurd (subst T (sym t) tt)

@@ -14,17 +14,20 @@ module _ {A : Type 0} where
 
   -- one mark and one element more
   pub kept-suc : (k : ℕ) (marks : List Bool) (xs : List A) (d : A) → k < length marks → k < length xs
-      → kept (take (suc k) marks) (take (suc k) xs) ≡ kept (take k marks) (take k xs) ++ cond (getD marks k false) (getD xs k d ∷ []) []
+      → kept (take (suc k) marks) (take (suc k) xs)
+      ≡ kept (take k marks) (take k xs) ++ cond (getD marks k false) (getD xs k d ∷ []) []
   unfolding kept
   kept-suc k [] xs d h l = absurd (not-suc-le-zero h)
   kept-suc k (b ∷ marks) [] d h l = absurd (not-suc-le-zero l)
   kept-suc zero (b ∷ marks) (x ∷ xs) d h l = refl
-  kept-suc (suc k) (true ∷ marks) (x ∷ xs) d h l = ap (λ (t : List A). x ∷ t) (kept-suc k marks xs d (le-of-suc-le-suc h) (le-of-suc-le-suc l))
+  kept-suc (suc k) (true ∷ marks) (x ∷ xs) d h l =
+      ap (λ (t : List A). x ∷ t) (kept-suc k marks xs d (le-of-suc-le-suc h) (le-of-suc-le-suc l))
   kept-suc (suc k) (false ∷ marks) (x ∷ xs) d h l = kept-suc k marks xs d (le-of-suc-le-suc h) (le-of-suc-le-suc l)
 
   -- ---- a row whose first cells were written, and that kept its length
 
-  module _ (new old row : List A) (k : ℕ) (e : row ≡ new ++ drop k old) (kept-length : length row ≡ length old) where
+  module _ (new old row : List A) (k : ℕ) (e : row ≡ new ++ drop k old)
+      (kept-length : length row ≡ length old) where
     pub front-length : k ≤ length old → length new ≡ k
     front-length h = omega (arith, ap length e, length-append new (drop k old), length-drop k old)
 
@@ -33,8 +36,11 @@ module _ {A : Type 0} where
 
     -- with one cell after them
     pub front-and-one : (y : A) → k < length old → take (k + 1) (set row k y) ≡ new ++ y ∷ []
-    front-and-one y h = ap (λ (r : List A). take (k + 1) (set r k y)) e ∙ cell (drop k old) (rw length-drop (omega arith))
+    front-and-one y h =
+        ap (λ (r : List A). take (k + 1) (set r k y)) e ∙ cell (drop k old) (rw length-drop (omega arith))
       where
         cell : (rest : List A) → 0 < length rest → take (k + 1) (set (new ++ rest) k y) ≡ new ++ y ∷ []
         cell [] l = absurd (not-suc-le-zero l)
-        cell (r ∷ rest) l = let n : length new ≡ k = front-length (omega arith) in rw (set-at new r rest y k n, ← n) (take-append-add new (y ∷ rest) 1)
+        cell (r ∷ rest) l =
+            let n : length new ≡ k = front-length (omega arith) in
+            rw (set-at new r rest y k n, ← n) (take-append-add new (y ∷ rest) 1)

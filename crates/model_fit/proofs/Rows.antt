@@ -37,7 +37,8 @@ unfolding queries
 length-queries [] charges = refl
 length-queries (p ∷ peptides) charges = ap suc (length-queries peptides (tail charges))
 
-pub getD-queries : (peptides charges : List ℕ) (k : ℕ) (d : Query) → k < length peptides → getD (queries peptides charges) k d ≡ queryOf (getD peptides k 0) (getD charges k 0)
+pub getD-queries : (peptides charges : List ℕ) (k : ℕ) (d : Query) → k < length peptides
+    → getD (queries peptides charges) k d ≡ queryOf (getD peptides k 0) (getD charges k 0)
 unfolding queries headD
 getD-queries [] charges k d h = absurd (not-suc-le-zero h)
 getD-queries (p ∷ peptides) [] zero d h = refl
@@ -46,19 +47,23 @@ getD-queries (p ∷ peptides) [] (suc k) d h = getD-queries peptides [] k d (le-
 getD-queries (p ∷ peptides) (z ∷ charges) (suc k) d h = getD-queries peptides charges k d (le-of-suc-le-suc h)
 
 -- of two columns of one list of rows, and of one without charges
-pub queries-map : {R : Type 0} (peptide charge : R → ℕ) (rows : List R) → queries (map peptide rows) (map charge rows) ≡ map (λ r. queryOf (peptide r) (charge r)) rows
+pub queries-map : {R : Type 0} (peptide charge : R → ℕ) (rows : List R)
+    → queries (map peptide rows) (map charge rows) ≡ map (λ r. queryOf (peptide r) (charge r)) rows
 unfolding queries headD
 queries-map peptide charge [] = refl
-queries-map peptide charge (r ∷ rows) = ap (λ (t : List Query). queryOf (peptide r) (charge r) ∷ t) (queries-map peptide charge rows)
+queries-map peptide charge (r ∷ rows) =
+    ap (λ (t : List Query). queryOf (peptide r) (charge r) ∷ t) (queries-map peptide charge rows)
 
-pub queries-bare : {R : Type 0} (peptide : R → ℕ) (rows : List R) → queries (map peptide rows) [] ≡ map (λ r. queryOf (peptide r) 0) rows
+pub queries-bare : {R : Type 0} (peptide : R → ℕ) (rows : List R)
+    → queries (map peptide rows) [] ≡ map (λ r. queryOf (peptide r) 0) rows
 unfolding queries headD
 queries-bare peptide [] = refl
 queries-bare peptide (r ∷ rows) = ap (λ (t : List Query). queryOf (peptide r) 0 ∷ t) (queries-bare peptide rows)
 
 -- ---- a peptide that is looked up
 
-module _ (t : Table) (p : ℕ) (letters : List ℕ) (is-sequence : letters ≡ sequenceOf (t .letters) (t .offsets) p) where
+module _ (t : Table) (p : ℕ) (letters : List ℕ)
+    (is-sequence : letters ≡ sequenceOf (t .letters) (t .offsets) p) where
   pub looked-short : Listed t p → length letters ≤ maxLetters
   looked-short h = omega (arith, ap length is-sequence, sequence-short (t .letters) (t .offsets) p (h .has))
 
@@ -73,7 +78,8 @@ module _ (t : Table) (p : ℕ) (letters : List ℕ) (is-sequence : letters ≡ s
 
 -- of the row at k
 abbrev pub sampleAt : Model → Input → ℕ → Sample
-sampleAt model i k = sampleOf model (i .table) (queryOf (getD (i .peptides) k 0) (getD (i .charges) k 0)) (getD (i .observed) k nan)
+sampleAt model i k =
+    sampleOf model (i .table) (queryOf (getD (i .peptides) k 0) (getD (i .charges) k 0)) (getD (i .observed) k nan)
 
 -- of the training rows among the first k
 abbrev pub seen : Model → Input → ℕ → List Sample
@@ -86,30 +92,39 @@ module _ (model : Model) (i : Input) (c : Checked i) where
   length-samples : length (samples model i) ≡ length (i .peptides)
   length-samples =
       let q = length-queries (i .peptides) (i .charges) in
-      length-zipWith (sampleOf model (i .table)) (queries (i .peptides) (i .charges)) (i .observed) (omega (arith, c .observed-long)) ∙ q
+      length-zipWith (sampleOf model (i .table)) (queries (i .peptides) (i .charges)) (i .observed)
+      (omega (arith, c .observed-long))
+      ∙ q
 
   sample-is : (k : ℕ) (d : Sample) → k < length (i .peptides) → getD (samples model i) k d ≡ sampleAt model i k
   sample-is k d h =
       let q = length-queries (i .peptides) (i .charges) in
       let e = c .observed-long in
-      getD-zipWith (sampleOf model (i .table)) (queries (i .peptides) (i .charges)) (i .observed) k (queryOf 0 0) nan d (omega arith) (omega arith)
-      ∙ ap (λ (r : Query). sampleOf model (i .table) r (getD (i .observed) k nan)) (getD-queries (i .peptides) (i .charges) k (queryOf 0 0) h)
+      getD-zipWith (sampleOf model (i .table)) (queries (i .peptides) (i .charges)) (i .observed) k (queryOf 0 0) nan d
+      (omega arith) (omega arith)
+      ∙ ap (λ (r : Query). sampleOf model (i .table) r (getD (i .observed) k nan))
+      (getD-queries (i .peptides) (i .charges) k (queryOf 0 0) h)
 
   -- the row at k trains, or it doesn't
   module _ (k : ℕ) (h : k < length (i .peptides)) where
-    seen-suc : (b : Bool) → trains (getD (i .labels) k (pos 0)) (getD (i .qs) k nan) ≡ b → seen model i (suc k) ≡ seen model i k ++ cond b (sampleAt model i k ∷ []) []
+    seen-suc : (b : Bool) → trains (getD (i .labels) k (pos 0)) (getD (i .qs) k nan) ≡ b
+        → seen model i (suc k) ≡ seen model i k ++ cond b (sampleAt model i k ∷ []) []
     seen-suc b t =
         let m = length-marks in
         let s = length-samples in
         let l = c .labels-long in
         let q = c .qs-long in
-        let e : getD (mask (i .labels) (i .qs)) k false ≡ b = mask-at (i .labels) (i .qs) k (omega arith) (omega arith) ∙ t in
-        kept-suc k (mask (i .labels) (i .qs)) (samples model i) (sampleAt model i k) (omega arith) (omega arith) ∙ rw (e, sample-is k (sampleAt model i k) h)
+        let e : getD (mask (i .labels) (i .qs)) k false ≡ b =
+        mask-at (i .labels) (i .qs) k (omega arith) (omega arith) ∙ t in
+        kept-suc k (mask (i .labels) (i .qs)) (samples model i) (sampleAt model i k) (omega arith) (omega arith)
+        ∙ rw (e, sample-is k (sampleAt model i k) h)
 
-    pub seen-trains : trains (getD (i .labels) k (pos 0)) (getD (i .qs) k nan) ≡ true → seen model i (suc k) ≡ seen model i k ++ sampleAt model i k ∷ []
+    pub seen-trains : trains (getD (i .labels) k (pos 0)) (getD (i .qs) k nan) ≡ true
+        → seen model i (suc k) ≡ seen model i k ++ sampleAt model i k ∷ []
     seen-trains t = seen-suc true t
 
-    pub seen-outside : trains (getD (i .labels) k (pos 0)) (getD (i .qs) k nan) ≡ false → seen model i (suc k) ≡ seen model i k
+    pub seen-outside : trains (getD (i .labels) k (pos 0)) (getD (i .qs) k nan) ≡ false
+        → seen model i (suc k) ≡ seen model i k
     seen-outside t = seen-suc false t ∙ append-nil (seen model i k)
 
   -- all rows
@@ -121,4 +136,6 @@ module _ (model : Model) (i : Input) (c : Checked i) where
 
   -- no more are seen than were looked at
   pub seen-few : (k : ℕ) → length (seen model i k) ≤ k
-  seen-few k = omega (arith, length-kept (take k (mask (i .labels) (i .qs))) (take k (samples model i)), length-take k (samples model i))
+  seen-few k =
+      let ss : List Sample = samples model i in
+      omega (arith, length-kept (take k (mask (i .labels) (i .qs))) (take k ss), length-take k ss)

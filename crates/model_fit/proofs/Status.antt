@@ -29,7 +29,10 @@ pub status-is : (model : Model) (i : Input) (room : Bool) (a b : Bool) (t : ℕ)
     ≡ statusBy model i room
 unfolding statusBy
 status-is model i room a b t f one two table five =
-    rw (one, two, table, five, table-first (i .table .letters) (i .table .offsets) (length (i .table .masses)) ((badPeptide, allBelow (length (i .table .masses)) (i .peptides)) ∷ []))
+    let t = i .table in
+    let peptides = length (t .masses) in
+    let last : List (ℕ × Bool) = (badPeptide, allBelow peptides (i .peptides)) ∷ [] in
+    rw (one, two, table, five, table-first (t .letters) (t .offsets) peptides last)
 
 -- the columns' lengths
 record Long (i : Input) : Type 0 where
@@ -42,12 +45,22 @@ unfolding columnsAgree
 long Retention i e =
     let n : ℕ = length (i .peptides) in
     let ls : List ℕ = length (i .labels) ∷ length (i .qs) ∷ length (i .observed) ∷ [] in
-    let s : lengthsAgree n ls ≡ true = and-true (lengthsAgree n ls) (lengthsAgree (length (i .table .masses)) (length (i .table .logs) ∷ [])) e .0 in
-    record { labels = length-at n ls 0 s (omega arith); qs = length-at n ls 1 s (omega arith); observed = length-at n ls 2 s (omega arith) }
+    let logs : List ℕ = length (i .table .logs) ∷ [] in
+    let s : lengthsAgree n ls ≡ true =
+    and-true (lengthsAgree n ls) (lengthsAgree (length (i .table .masses)) logs) e .0 in
+    record {
+      labels = length-at n ls 0 s (omega arith);
+      qs = length-at n ls 1 s (omega arith);
+      observed = length-at n ls 2 s (omega arith);
+    }
 long Mobility i e =
     let n : ℕ = length (i .peptides) in
     let ls : List ℕ = length (i .labels) ∷ length (i .qs) ∷ length (i .charges) ∷ length (i .observed) ∷ [] in
-    record { labels = length-at n ls 0 e (omega arith); qs = length-at n ls 1 e (omega arith); observed = length-at n ls 3 e (omega arith) }
+    record {
+      labels = length-at n ls 0 e (omega arith);
+      qs = length-at n ls 1 e (omega arith);
+      observed = length-at n ls 3 e (omega arith);
+    }
 
 -- an accepted call has passed all checks
 module _ (model : Model) (i : Input) (room : Bool) (accept : statusBy model i room ≡ accepted) where
@@ -70,7 +83,11 @@ module _ (model : Model) (i : Input) (room : Bool) (accept : statusBy model i ro
       }
 
 -- each row's peptide is in the table
-pub listed : (t : Table) (peptides : List ℕ) (k : ℕ) → Numbered t peptides → k < length peptides → Listed t (getD peptides k 0)
+pub listed : (t : Table) (peptides : List ℕ) (k : ℕ) → Numbered t peptides → k < length peptides
+    → Listed t (getD peptides k 0)
 listed t peptides k n h =
     let l : getD peptides k 0 < length (t .masses) = below-at (length (t .masses)) peptides k (n .below) h in
-    record { has = offsets-peptide (t .letters) (t .offsets) (length (t .masses)) (getD peptides k 0) (n .offsets) l; weighed = l }
+    record {
+      has = offsets-peptide (t .letters) (t .offsets) (length (t .masses)) (getD peptides k 0) (n .offsets) l;
+      weighed = l;
+    }

@@ -30,8 +30,8 @@ pub record Input : Type 0 where
 abbrev pub tableOf : (letters offsets : List ℕ) (masses logs : List Float) → Table
 tableOf letters offsets masses logs = record { letters = letters; offsets = offsets; masses = masses; logs = logs }
 
-abbrev pub inputOf : (peptides : List ℕ) (labels : List ℤ) (qs : List Float) (charges : List ℕ) (observed : List Float)
-    (letters offsets : List ℕ) (masses logs : List Float) → Input
+abbrev pub inputOf : (peptides : List ℕ) (labels : List ℤ) (qs : List Float) (charges : List ℕ)
+    (observed : List Float) (letters offsets : List ℕ) (masses logs : List Float) → Input
 inputOf peptides labels qs charges observed letters offsets masses logs =
     record {
       peptides = peptides;
@@ -48,8 +48,8 @@ inputOf peptides labels qs charges observed letters offsets masses logs =
 abbrev pub tableAt : (letters offsets : Held ℕ) (masses logs : Held Float) → Table
 tableAt letters offsets masses logs = tableOf (now letters) (now offsets) (now masses) (now logs)
 
-abbrev pub inputAt : (peptide : Held ℕ) (label : Held ℤ) (q : Held Float) (charge : Held ℕ) (observed : Held Float)
-    (letters offsets : Held ℕ) (masses logs : Held Float) → Input
+abbrev pub inputAt : (peptide : Held ℕ) (label : Held ℤ) (q : Held Float) (charge : Held ℕ)
+    (observed : Held Float) (letters offsets : Held ℕ) (masses logs : Held Float) → Input
 inputAt peptide label q charge observed letters offsets masses logs =
     inputOf
     (now peptide) (now label) (now q) (now charge) (now observed) (now letters) (now offsets) (now masses) (now logs)

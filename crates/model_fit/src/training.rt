@@ -122,7 +122,6 @@ fn accumulate(
     workspace: &mut [f64],
 ) -> Sums
     requires { ⌜ Checked (inputAt peptide label q charge observed letters offsets masses logs) ⌝ }
-    requires { ⌜ Workspace (orderOf model) (now workspace) ⌝ }
     requires { ⌜ now workspace ≡ holding (orderOf model) (normal (orderOf model) []) ⌝ }
     ensures { λ r. ⌜ Accumulated model
         (modelInput peptide label q charge observed letters offsets masses logs)

@@ -9,11 +9,12 @@ use lib.Dec.{eqb, leb}
 use lib.Ieee.{Float}
 use lib.ListN.{length, take, drop, replicate, length-append, length-drop, length-replicate}
 use lib.Seq.{length-take-le, take-at}
-use borrow.Author.Tests.{leb-true, ne-eqb}
+use borrow.Author.Tests.{leb-true}
 use Rattle.params.specs.Slice.{change}
 use Rattle.float.specs.Number.{zero64}
 use Rattle.status.specs.Status.{accepted}
-use Rattle.status.specs.Told.{ifAccepted, toldFor}
+use Rattle.status.proofs.Told.{if-accepted, if-refused}
+use Rattle.status.specs.Told.{toldFor}
 use Rattle.status.proofs.Laws.{and-true}
 use Rattle.embedding.specs.Design.{orderOf}
 use Rattle.embedding.specs.declared.Model.{Model}
@@ -39,7 +40,8 @@ pub record Room (model : Model) (workspace beta : ℕ) : Type 0 where
   pub cells : workspaceCells (orderOf model) ≤ workspace
   pub coefficients : orderOf model ≤ beta
 
-pub room : (model : Model) (workspace beta : ℕ) → fitRoom model workspace beta ≡ true → Room model workspace beta
+pub room : (model : Model) (workspace beta : ℕ) → fitRoom model workspace beta ≡ true
+    → Room model workspace beta
 room model workspace beta e =
     let b = and-true (leb (workspaceCells (orderOf model)) workspace) (leb (orderOf model) beta) e in
     record { cells = leb-true _ _ (b .0); coefficients = leb-true _ _ (b .1) }
@@ -58,13 +60,15 @@ predict-room model rows workspace beta predicted error e =
     record { fitted = a .0; predictions = leb-true _ _ (b .0); errors = leb-true _ _ (b .1) }
 
 -- three tests, one after the other
-pub and-is : (a b c a₁ b₁ c₁ : Bool) → a ≡ a₁ → b ≡ b₁ → c ≡ c₁ → (a₁ && (b₁ && c₁)) ≡ (a && (b && c))
+pub and-is : (a b c a₁ b₁ c₁ : Bool) → a ≡ a₁ → b ≡ b₁ → c ≡ c₁
+    → (a₁ && (b₁ && c₁)) ≡ (a && (b && c))
 and-is a b c a₁ b₁ c₁ ea eb ec = rw (ea, eb, ec)
 
 -- ---- a fit on the first cells of longer slices
 
 -- what holds of a solved fit, by its test
-if-solved : (o : FitOutcome) (P : Type 0) → isSolved o ≡ true → ((ridge r2 : Float) (n : ℕ) → o ≡ Solved ridge r2 n → P) → P
+if-solved : (o : FitOutcome) (P : Type 0) → isSolved o ≡ true
+    → ((ridge r2 : Float) (n : ℕ) → o ≡ Solved ridge r2 n → P) → P
 if-solved (Solved ridge r2 n) P e h = h ridge r2 n refl
 if-solved NoTrainingRows P e h = let z : _≡_ {A = ℕ} 0 1 = cc in absurd (omega arith)
 if-solved NotSolved P e h = let z : _≡_ {A = ℕ} 0 1 = cc in absurd (omega arith)
@@ -103,7 +107,8 @@ fitted-within model i k d s t r ek ed hk hd kept f =
     let workspace-is =
     ap (λ (x : List Float). x ++ drop k w₀) zeros
     ∙ ap (λ (n : ℕ). replicate K zero64 ++ drop n w₀) (ek ∙ sym (length-replicate K zero64)) in
-    let coefficients-is = ap (λ (x : List Float). x ++ drop d b₀) (f .coefficients) ∙ overwrite-part new b₀ d few hd in
+    let coefficients-is =
+    ap (λ (x : List Float). x ++ drop d b₀) (f .coefficients) ∙ overwrite-part new b₀ d few hd in
     record {
       outcome = f .outcome;
       slices = λ j. record { workspace = workspace-is j; coefficients = coefficients-is j };
@@ -111,13 +116,6 @@ fitted-within model i k d s t r ek ed hk hd kept f =
     }
 
 -- ---- the status
-
-module _ {A : Type 0} (status : ℕ) (done left : A) where
-  pub if-refused : (status ≡ accepted → ⊥) → ifAccepted status done left ≡ left
-  if-refused h = rw (ne-eqb status accepted h)
-
-  pub if-accepted : status ≡ accepted → ifAccepted status done left ≡ done
-  if-accepted e = rw e
 
 -- what the answer tells
 told-of : (status : ℕ) (fit : Fit) (r : FitAnswer) → r ≡ answerOf status fit
@@ -172,7 +170,8 @@ module _ (model : Model) (i : Input) (s t : FitSlices) (r : FitOutcome) (f : Fit
       pub solved-predictions : p₁ ≡ overwritten (predictions model i) p₀
       solved-predictions =
           let new : List Float = fitOfInput model i .coefficients in
-          let b : take d (t .coefficients) ≡ new = ap (take d) coefficients-is ∙ take-at new _ d (f .long e ∙ sym ed) in
+          let b : take d (t .coefficients) ≡ new =
+          ap (take d) coefficients-is ∙ take-at new _ d (f .long e ∙ sym ed) in
           p
           ∙ ap (λ (x : List Float). overwritten (predicted-with x) p₀) b
           ∙ ap (λ (x : List Float). overwritten x p₀) (sym predicted-all)
@@ -228,9 +227,11 @@ module _ (model : Model) (i : Input) (s : PredictSlices) where
       → PredictCall model i (change s t) (Fitted r)
   predict-accepted t r h f =
       let n : ℕ = predictStatus model i s in
-      let a : Fitted r ≡ answerOf n (fitOfInput model i) = ap Fitted (f .fitted .outcome) ∙ sym (if-accepted n _ _ h) in
+      let a : Fitted r ≡ answerOf n (fitOfInput model i) =
+      ap Fitted (f .fitted .outcome) ∙ sym (if-accepted n _ _ h) in
       let workspace-is = ap (λ (x : FitSlices). x .workspace) (f .fitted .slices) in
-      let filled : t ≡ predictFilled model i s = λ k. record { workspace = workspace-is k; outputs = f .outputs k } in
+      let filled : t ≡ predictFilled model i s =
+      λ k. record { workspace = workspace-is k; outputs = f .outputs k } in
       record {
         answer = a;
         told = told-of n (fitOfInput model i) _ a;

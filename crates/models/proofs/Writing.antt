@@ -33,14 +33,16 @@ two = refl
 
 module _ (model : Model) (t : Table) (beta : List Float) (peptides charges : List ℕ) where
   pub length-predictions : length (map (predictionOf model t beta) (queries peptides charges)) ≡ length peptides
-  length-predictions = length-map (queries peptides charges) (predictionOf model t beta) ∙ length-queries peptides charges
+  length-predictions =
+      length-map (queries peptides charges) (predictionOf model t beta) ∙ length-queries peptides charges
 
   pub prediction-at : (k : ℕ) (x hi y v : Float) → k < length peptides
       → x ≡ dot (designOf model t (queryOf (getD peptides k 0) (getD charges k 0))) beta
       → hi ≡ largest model
       → y ≡ clamped zero64 hi x
       → v ≡ narrowed y
-      → v ≡ getD (map (predictionOf model t beta) (queries peptides charges)) k (predictionOf model t beta (queryOf 0 0))
+      → v
+      ≡ getD (map (predictionOf model t beta) (queries peptides charges)) k (predictionOf model t beta (queryOf 0 0))
   prediction-at k x hi y v h ex eh ey ev =
       let p : Query → Float = predictionOf model t beta in
       let q : getD (queries peptides charges) k (queryOf 0 0) ≡ queryOf (getD peptides k 0) (getD charges k 0) =

@@ -42,7 +42,8 @@ time-by : (found : Found) (rt : Float) → timeToldBy (timeBy found rt) ≡ time
 time-by (At a) rt = refl
 time-by (Refused n) rt = refl
 
-pub lookup : (records : List Alignment) (file : ℕ) (r : Found) → r ≡ recordOf records file → LookupCall records file r
+pub lookup : (records : List Alignment) (file : ℕ) (r : Found) → r ≡ recordOf records file
+    → LookupCall records file r
 lookup records file r e =
     record { answer = e; told = ap toldBy e ∙ found-told (reaches records file) (recordAt records file) }
 

@@ -20,7 +20,8 @@ use Rattle.regression.specs.Regression.{noSums, plusTarget, sumsOf, squa
 
 -- ---- sums over the samples
 
-pub total-snoc : (f : Sample → Float) (ss : List Sample) (s : Sample) → total f (ss ++ s ∷ []) ≡ add binary64 (total f ss) (f s)
+pub total-snoc : (f : Sample → Float) (ss : List Sample) (s : Sample)
+    → total f (ss ++ s ∷ []) ≡ add binary64 (total f ss) (f s)
 total-snoc f ss s = rw map-append (foldl-append (add binary64) zero64 (map f ss) (f s ∷ []))
 
 -- ---- the normal equations
@@ -42,7 +43,9 @@ module _ (D : ℕ) (ss : List Sample) where
   length-normal = length-flat (D + 1) (normal D ss) wide-normal ∙ ap (λ (n : ℕ). n * (D + 1)) rows-normal
 
   pub rowsOf-normal : rowsOf (D + 1) D (flat (normal D ss)) ≡ normal D ss
-  rowsOf-normal = ap (λ (n : ℕ). rowsOf (D + 1) n (flat (normal D ss))) (sym rows-normal) ∙ rowsOf-flat (D + 1) (normal D ss) wide-normal
+  rowsOf-normal =
+      ap (λ (n : ℕ). rowsOf (D + 1) n (flat (normal D ss))) (sym rows-normal)
+      ∙ rowsOf-flat (D + 1) (normal D ss) wide-normal
 
   -- one sample more
   module _ (s : Sample) (wide : length (s .row) ≡ D) where
@@ -50,7 +53,8 @@ module _ (D : ℕ) (ss : List Sample) where
     row-more : (j : ℕ) → zipped (plusScaled (column j s)) (tabulate D (cov ss j) ++ rhs ss j ∷ []) (extended s)
         ≡ tabulate D (cov (ss ++ s ∷ []) j) ++ rhs (ss ++ s ∷ []) j ∷ []
     row-more j =
-        zipped-snoc (plusScaled (column j s)) (tabulate D (cov ss j)) (rhs ss j) (s .row) (s .y) (length-tabulate D (cov ss j) ∙ sym wide)
+        zipped-snoc (plusScaled (column j s)) (tabulate D (cov ss j)) (rhs ss j) (s .row) (s .y)
+        (length-tabulate D (cov ss j) ∙ sym wide)
         ∙ cc (
           zipped-tabulate (plusScaled (column j s)) nan D (cov ss j) (s .row) (le-of-eq (sym wide)),
           tabulate-same D (λ k. plusScaled (column j s) (cov ss j k) (column k s)) (cov (ss ++ s ∷ []) j)
@@ -61,14 +65,16 @@ module _ (D : ℕ) (ss : List Sample) where
     pub normal-snoc : addRow (normal D ss) (extended s) ≡ normal D (ss ++ s ∷ [])
     unfolding normal
     normal-snoc =
-        zipped-tabulate (λ (r : List Float) x. zipped (plusScaled x) r (extended s)) nan D _ (extended s) (simp length-append (omega arith))
+        zipped-tabulate (λ (r : List Float) x. zipped (plusScaled x) r (extended s)) nan D _ (extended s)
+        (simp length-append (omega arith))
         ∙ tabulate-same D _ _ (λ j l. rw (List·getD-append (s .row) (s .y ∷ []) nan j (omega arith)) (row-more j))
 
 -- of no sample, in one list
 pub normal-nil : (D : ℕ) → flat (normal D []) ≡ replicate (D * (D + 1)) zero64
 unfolding normal
 normal-nil D =
-    rw (tabulate-constant D zero64, replicate-append-replicate D 1 zero64, tabulate-constant D (replicate (D + 1) zero64))
+    let row : List Float = replicate (D + 1) zero64 in
+    rw (tabulate-constant D zero64, replicate-append-replicate D 1 zero64, tabulate-constant D row)
     (flat-replicate D (D + 1) zero64)
 
 -- ---- the target's sums and the sum of squared errors
@@ -77,12 +83,18 @@ pub sums-nil : sumsOf [] ≡ noSums
 sums-nil = refl
 
 pub sums-snoc : (ss : List Sample) (s : Sample) → sumsOf (ss ++ s ∷ []) ≡ plusTarget (sumsOf ss) (s .y)
-sums-snoc ss s = cc (length-append ss (s ∷ []), total-snoc (λ t. t .y) ss s, total-snoc (λ t. mul binary64 (t .y) (t .y)) ss s)
+sums-snoc ss s =
+    cc (
+      length-append ss (s ∷ []),
+      total-snoc (λ t. t .y) ss s,
+      total-snoc (λ t. mul binary64 (t .y) (t .y)) ss s,
+    )
 
 pub sse-nil : (beta : List Float) → sse beta [] ≡ zero64
 sse-nil beta = refl
 
-pub sse-snoc : (beta : List Float) (ss : List Sample) (s : Sample) → sse beta (ss ++ s ∷ []) ≡ add binary64 (sse beta ss) (squaredError beta s)
+pub sse-snoc : (beta : List Float) (ss : List Sample) (s : Sample)
+    → sse beta (ss ++ s ∷ []) ≡ add binary64 (sse beta ss) (squaredError beta s)
 sse-snoc beta ss s = total-snoc (squaredError beta) ss s
 
 -- ---- the fit

@@ -65,7 +65,8 @@ module _ (D : ℕ) where
   blank-long = rw length-replicate (omega arith)
 
   -- cleared, it holds the equations of no sample
-  pub cleared-holds : (cells : List Float) → length cells ≡ workspaceCells D → cleared cells ≡ holding D (normal D [])
+  pub cleared-holds : (cells : List Float) → length cells ≡ workspaceCells D
+      → cleared cells ≡ holding D (normal D [])
   unfolding withEquations
   cleared-holds cells e =
       let k : ℕ = systemLength D in
@@ -92,7 +93,8 @@ module _ (D : ℕ) where
           e ∙ rw (holds, x, equations-normal, normal-snoc D ss s wide) (with-again (normal D ss) _ _ blank-long)
 
       -- after `add_two_rows`
-      pub add-two-rows-holds : (s t : Sample) (first second : List Float) → length (s .row) ≡ D → length (t .row) ≡ D
+      pub add-two-rows-holds : (s t : Sample) (first second : List Float) → length (s .row) ≡ D
+          → length (t .row) ≡ D
           → first ≡ extended s
           → second ≡ extended t
           → cells₁ ≡ withEquations D (addRow (addRow (equations D cells) first) second) cells

@@ -114,6 +114,9 @@ fn system_length(d: usize) -> usize
     d * (d + 1)
 }
 
+// The cells of the workspace of a fit of the largest order, for arrays.
+pub const MAX_WORKSPACE: usize = 2 * status::MAX_ORDER * (status::MAX_ORDER + 1);
+
 // How many cells the workspace of a fit has: two systems. For the models, whose order d is at most 100.
 pub fn workspace_cells(d: usize) -> usize
     requires { ⌜ d ≤ maxOrder ⌝ }

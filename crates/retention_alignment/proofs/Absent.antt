@@ -18,15 +18,20 @@ use Rattle.rt_matrix.proofs.Row.{decode-present}
 apart : (n d k a : ℕ) → 0 < d → n < k * d → k ≤ a → n * 1 ≡ a * d → ⊥
 apart n d k a D h l e = omega (arith, mul-le-mul-right {m = k} {n = a} d l)
 
-unequal : (s : Bool) (n d k a : ℕ) → 0 < d → n < k * d → k ≤ a → (eqb (n * 1) (a * d) && (Bool·beq s false || eqb (n * 1) 0)) ≡ false
-unequal s n d k a D h l = ap (λ (b : Bool). b && (Bool·beq s false || eqb (n * 1) 0)) (ne-eqb (n * 1) (a * d) (apart n d k a D h l))
+unequal : (s : Bool) (n d k a : ℕ) → 0 < d → n < k * d → k ≤ a
+    → (eqb (n * 1) (a * d) && (Bool·beq s false || eqb (n * 1) 0)) ≡ false
+unequal s n d k a D h l =
+    ap (λ (b : Bool). b && (Bool·beq s false || eqb (n * 1) 0)) (ne-eqb (n * 1) (a * d) (apart n d k a D h l))
 
 pub not-absent : (t : Float) → T (fits binary32 t) → eq t absent ≡ false
 unfolding eq ofBits fits
 not-absent nan h = refl
 not-absent (inf s) h = refl
 not-absent (fin s zero e) h = unequal s (0 * up e) (down e) 1 _ (down-pos e) (omega (arith, down-pos e)) (lit≤ tt)
-not-absent (fin s (suc m) e) h = unequal s (suc m * up e) (down e) (2 ^ 128) _ (down-pos e) (ltb→lt (suc m * up e) (2 ^ 128 * down e) (and-r (eqb (suc m % 2) 1 && ltb (suc m) (2 ^ 24) && leb (down e) (2 ^ 149)) (ltb (suc m * up e) (2 ^ 128 * down e)) h)) (lit≤ tt)
+not-absent (fin s (suc m) e) h =
+    unequal s (suc m * up e) (down e) (2 ^ 128) _ (down-pos e)
+    (ltb→lt (suc m * up e) (2 ^ 128 * down e) (and-r (eqb (suc m % 2) 1 && ltb (suc m) (2 ^ 24) && leb (down e) (2 ^ 149)) (ltb (suc m * up e) (2 ^ 128 * down e)) h))
+    (lit≤ tt)
 
 -- the mark itself
 pub decode-mark : decode absent ≡ none
@@ -37,7 +42,8 @@ decode-mark = refl
 pub decode-time : (t : Float) → T (fits binary32 t) → decode t ≡ some t
 decode-time t h = decode-present t (not-absent t h)
 
-pub decode-smaller : (s t : Float) → eq s absent ≡ false → T (fits binary32 t) → decode (minimum s t) ≡ some (minimum s t)
+pub decode-smaller : (s t : Float) → eq s absent ≡ false → T (fits binary32 t)
+    → decode (minimum s t) ≡ some (minimum s t)
 unfolding minimum
 decode-smaller s t e h = decode-present (minimum s t) (go (isNan s) (lt t s))
   where

@@ -78,7 +78,8 @@ module _ (i : Input) (s : Slices) (accept : status i s ≡ accepted) where
 -- ---- the contract
 
 -- a refused call
-pub refused : (i : Input) (s : Slices) (n : ℕ) → n ≡ status i s → (n ≡ 0 → ⊥) → Aligned i (change s s) (Refused n)
+pub refused : (i : Input) (s : Slices) (n : ℕ) → n ≡ status i s → (n ≡ 0 → ⊥)
+    → Aligned i (change s s) (Refused n)
 unfolding answerOf slicesAfter
 refused i s n e h =
     let test : eqb (status i s) accepted ≡ false = ne-eqb (status i s) 0 (λ z. h (e ∙ z)) in
@@ -97,7 +98,8 @@ pub accepted-is : (i : Input) (before parts : Slices) (cells : ℕ) → status i
 unfolding answerOf filled slicesAfter
 accepted-is i before parts cells e n w lw lr la =
     let test : eqb (status i before) accepted ≡ true = eq-eqb (status i before) 0 e in
-    let now : filled i before ≡ slicesAfter i before = sym (ap (λ (b : Bool). cond b (filled i before) before) test) in
+    let now : filled i before ≡ slicesAfter i before =
+    sym (ap (λ (b : Bool). cond b (filled i before) before) test) in
     let workspace-is =
     overwrite-front (replicate (i .peptides * i .files) zero64) (parts .workspace) (before .workspace) cells
     (w .workspace) lw in

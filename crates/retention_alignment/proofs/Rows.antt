@@ -21,7 +21,8 @@ module _ (fs ps : List ℕ) (ts : List Float) where
   abbrev pub rowAt : ℕ → Obs
   rowAt i = record { file = getD fs i 0; peptide = getD ps i 0; rt = getD ts i nan }
 
-  pub rows-cons : (i : ℕ) → i < length fs → i < length ps → i < length ts → rowsFrom i ≡ rowAt i ∷ rowsFrom (i + 1)
+  pub rows-cons : (i : ℕ) → i < length fs → i < length ps → i < length ts
+      → rowsFrom i ≡ rowAt i ∷ rowsFrom (i + 1)
   unfolding observations
   rows-cons i f p t =
       rw add-one
@@ -32,20 +33,23 @@ module _ (fs ps : List ℕ) (ts : List Float) where
   rows-none i h = ap (λ (l : List ℕ). observations l (drop i ps) (drop i ts)) (drop-of-length-le fs h)
 
 -- a row by its place
-pub length-rows : (fs ps : List ℕ) (ts : List Float) → length ps ≡ length fs → length ts ≡ length fs → length (observations fs ps ts) ≡ length fs
+pub length-rows : (fs ps : List ℕ) (ts : List Float) → length ps ≡ length fs → length ts ≡ length fs
+    → length (observations fs ps ts) ≡ length fs
 unfolding observations
 length-rows [] ps ts p t = refl
 length-rows (f ∷ fs) [] ts p t = absurd (omega arith)
 length-rows (f ∷ fs) (x ∷ ps) [] p t = absurd (omega arith)
 length-rows (f ∷ fs) (x ∷ ps) (y ∷ ts) p t = ap suc (length-rows fs ps ts (omega arith) (omega arith))
 
-pub rows-at : (fs ps : List ℕ) (ts : List Float) (i : ℕ) (d : Obs) → i < length fs → i < length ps → i < length ts → getD (observations fs ps ts) i d ≡ rowAt fs ps ts i
+pub rows-at : (fs ps : List ℕ) (ts : List Float) (i : ℕ) (d : Obs) → i < length fs → i < length ps
+    → i < length ts → getD (observations fs ps ts) i d ≡ rowAt fs ps ts i
 unfolding observations
 rows-at [] ps ts i d f p t = absurd (not-suc-le-zero f)
 rows-at (x ∷ fs) [] ts i d f p t = absurd (not-suc-le-zero p)
 rows-at (x ∷ fs) (y ∷ ps) [] i d f p t = absurd (not-suc-le-zero t)
 rows-at (x ∷ fs) (y ∷ ps) (z ∷ ts) zero d f p t = refl
-rows-at (x ∷ fs) (y ∷ ps) (z ∷ ts) (suc i) d f p t = rows-at fs ps ts i d (le-of-suc-le-suc f) (le-of-suc-le-suc p) (le-of-suc-le-suc t)
+rows-at (x ∷ fs) (y ∷ ps) (z ∷ ts) (suc i) d f p t =
+    rows-at fs ps ts i d (le-of-suc-le-suc f) (le-of-suc-le-suc p) (le-of-suc-le-suc t)
 
 module _ (fs ps : List ℕ) (ts : List Float) where
   module _ (ls : List ℤ) (qs : List Float) where
@@ -53,16 +57,22 @@ module _ (fs ps : List ℕ) (ts : List Float) where
     abbrev pub trainingFrom : ℕ → List Obs
     trainingFrom i = kept (mask (drop i ls) (drop i qs)) (rowsFrom fs ps ts i)
 
-    pub training-cons : (i : ℕ) → i < length fs → i < length ps → i < length ts → i < length ls → i < length qs
-        → trainingFrom i ≡ cond (trains (getD ls i (pos 0)) (getD qs i nan)) (rowAt fs ps ts i ∷ trainingFrom (i + 1)) (trainingFrom (i + 1))
+    pub training-cons : (i : ℕ) → i < length fs → i < length ps → i < length ts → i < length ls
+        → i < length qs
+        → trainingFrom i
+        ≡ cond (trains (getD ls i (pos 0)) (getD qs i nan)) (rowAt fs ps ts i ∷ trainingFrom (i + 1))
+        (trainingFrom (i + 1))
     unfolding mask kept
     training-cons i f p t l q =
-        let marks : mask (drop i ls) (drop i qs) ≡ trains (getD ls i (pos 0)) (getD qs i nan) ∷ mask (drop (i + 1) ls) (drop (i + 1) qs) = rw add-one (ap₂ mask (drop-cons ls i (pos 0) l) (drop-cons qs i nan q)) in
-        ap (kept (mask (drop i ls) (drop i qs))) (rows-cons fs ps ts i f p t) ∙ ap (λ (m : List Bool). kept m (rowAt fs ps ts i ∷ rowsFrom fs ps ts (i + 1))) marks
+        let marks : mask (drop i ls) (drop i qs) ≡ trains (getD ls i (pos 0)) (getD qs i nan) ∷ mask (drop (i + 1) ls) (drop (i + 1) qs) =
+        rw add-one (ap₂ mask (drop-cons ls i (pos 0) l) (drop-cons qs i nan q)) in
+        ap (kept (mask (drop i ls) (drop i qs))) (rows-cons fs ps ts i f p t)
+        ∙ ap (λ (m : List Bool). kept m (rowAt fs ps ts i ∷ rowsFrom fs ps ts (i + 1))) marks
 
     pub training-none : (i : ℕ) → length fs ≤ i → trainingFrom i ≡ []
     unfolding kept
-    training-none i h = ap (kept (mask (drop i ls) (drop i qs))) (rows-none fs ps ts i h) ∙ nothing (mask (drop i ls) (drop i qs))
+    training-none i h =
+        ap (kept (mask (drop i ls) (drop i qs))) (rows-none fs ps ts i h) ∙ nothing (mask (drop i ls) (drop i qs))
       where
         nothing : (m : List Bool) → kept {A = Obs} m [] ≡ []
         nothing [] = refl

@@ -62,7 +62,9 @@ sumsFrom s ps =
       «sum_y» = sumFrom (s .«sum_y») (map (λ p. p .y) ps);
     }
 
-counted : (n : ℕ) (ds xs ys : Float) {m : ℕ} → n ≡ m → _≡_ {A = Sums} (record { len = n; dot = ds; «sum_x» = xs; «sum_y» = ys }) (record { len = m; dot = ds; «sum_x» = xs; «sum_y» = ys })
+counted : (n : ℕ) (ds xs ys : Float) {m : ℕ} → n ≡ m
+    → _≡_ {A = Sums} (record { len = n; dot = ds; «sum_x» = xs; «sum_y» = ys })
+    (record { len = m; dot = ds; «sum_x» = xs; «sum_y» = ys })
 counted n ds xs ys e = ap {B = Sums} (λ (k : ℕ). record { len = k; dot = ds; «sum_x» = xs; «sum_y» = ys }) e
 
 pub points-sums : (s : Sums) (ps : List Point) → over-points addPoint noSums s ps ≡ sumsFrom s ps
@@ -70,7 +72,9 @@ unfolding addPoint
 points-sums s [] = counted (s .len) (s .dot) (s .«sum_x») (s .«sum_y») (omega arith)
 points-sums s (p ∷ ps) = points-sums (addPoint s (p .x) (p .y)) ps ∙ counted _ _ _ _ (omega arith)
 
-pub points-squares : (s : Spread) (ps : List Point) → foldl (λ a p. addSquare a (p .x) (p .y)) s ps ≡ spread (s .xMean) (sumFrom (s .sx2) (map (λ p. squared (s .xMean) (p .x)) ps))
+pub points-squares : (s : Spread) (ps : List Point)
+    → foldl (λ a p. addSquare a (p .x) (p .y)) s ps
+    ≡ spread (s .xMean) (sumFrom (s .sx2) (map (λ p. squared (s .xMean) (p .x)) ps))
 unfolding addSquare
 points-squares s [] = refl
 points-squares s (p ∷ ps) = points-squares (addSquare s (p .x) (p .y)) ps
@@ -115,27 +119,36 @@ module _ (n : ℕ) (ns : List ℕ) (ds xs ys ms ss : List Float) (w : Fresh n ns
       ∙ ap₂ (sumsRow zero64) (zero-at xs (w .sumX) f h) (zero-at ys (w .sumY) f h)
 
 -- the mean of each file's times, from the sums
-pub means-at : (n : ℕ) (ns : List ℕ) (ds xs ys : List Float) → Sized n ns ds xs ys → (ms : List Float) → ms ≡ xMeans ns xs → (f : ℕ) → f < n
-    → getD ms f nan ≡ div binary64 (getD (sumsOf ns ds xs ys) f noSums .«sum_x») (number (getD (sumsOf ns ds xs ys) f noSums .len))
+pub means-at : (n : ℕ) (ns : List ℕ) (ds xs ys : List Float) → Sized n ns ds xs ys → (ms : List Float)
+    → ms ≡ xMeans ns xs → (f : ℕ) → f < n
+    → getD ms f nan
+    ≡ div binary64 (getD (sumsOf ns ds xs ys) f noSums .«sum_x») (number (getD (sumsOf ns ds xs ys) f noSums .len))
 means-at n ns ds xs ys z ms e f h =
     ap (λ (l : List Float). getD l f nan) e
     ∙ getD-zipWith (λ k x. div binary64 x (number k)) ns xs f 0 nan nan (omega arith) (omega arith)
     ∙ sym (ap (λ (s : Sums). div binary64 (s .«sum_x») (number (s .len))) (sums-at ns ds xs ys n z f h))
 
-shares-map : (ms : List ℕ) (rows : List (List Float)) → map (sharesOf ms) rows ≡ map (zipWith share ms) (map (map decode) rows)
+shares-map : (ms : List ℕ) (rows : List (List Float))
+    → map (sharesOf ms) rows ≡ map (zipWith share ms) (map (map decode) rows)
 shares-map ms [] = refl
 shares-map ms (row ∷ rows) = ap (λ (l : List (List (Option Float))). sharesOf ms row ∷ l) (shares-map ms rows)
 
 module _ (ms : List ℕ) (n : ℕ) (cells : List Float) (e : length cells ≡ n * length ms) where
   wide : Wide (length ms) (rowShares ms n cells)
-  wide = wide-map (length ms) (length ms) (sharesOf ms) (length-shares ms) (rowsOf (length ms) n cells) (wide-rowsOf (length ms) n cells (omega arith))
+  wide =
+      wide-map (length ms) (length ms) (sharesOf ms) (length-shares ms) (rowsOf (length ms) n cells)
+      (wide-rowsOf (length ms) n cells (omega arith))
 
   -- the points of the file f
   abbrev at : ℕ → List Point
   at f = points f (keptRows (rowShares ms n cells))
 
-  module _ (old sums : List Sums) (lo : length old ≡ length ms) (none : (f : ℕ) → f < length ms → getD old f noSums ≡ noPoints) (is : sums ≡ foldl (afterRow addPoint) old (rowShares ms n cells)) where
-    sums-are : (f : ℕ) → f < length ms → getD sums f noSums ≡ record { len = length (at f); dot = dot (at f); «sum_x» = sumX (at f); «sum_y» = sumY (at f) }
+  module _ (old sums : List Sums) (lo : length old ≡ length ms)
+      (none : (f : ℕ) → f < length ms → getD old f noSums ≡ noPoints)
+      (is : sums ≡ foldl (afterRow addPoint) old (rowShares ms n cells)) where
+    sums-are : (f : ℕ) → f < length ms
+        → getD sums f noSums
+        ≡ record { len = length (at f); dot = dot (at f); «sum_x» = sumX (at f); «sum_y» = sumY (at f) }
     sums-are f h =
         ap (λ (l : List Sums). getD l f noSums) is
         ∙ by-columns addPoint noSums (length ms) f h old (rowShares ms n cells) lo wide
@@ -154,15 +167,19 @@ module _ (ms : List ℕ) (n : ℕ) (cells : List Float) (e : length cells ≡ n 
           ap (λ (s : Spread). s .sx2)
           (sym (spreads-at xm qs (length ms) lm lq f h)
           ∙ ap (λ (l : List Spread). getD l f noSpread) si
-          ∙ by-columns addSquare noSpread (length ms) f h (spreadsOf xm first) (rowShares ms n cells) (length-spreads xm first (length ms) lm lf) wide
-          ∙ ap (λ (s : Spread). over-points addSquare noSpread s (at f)) (spreads-at xm first (length ms) lm lf f h ∙ ap (spread (getD xm f nan)) (start f h))
+          ∙ by-columns addSquare noSpread (length ms) f h (spreadsOf xm first) (rowShares ms n cells)
+          (length-spreads xm first (length ms) lm lf) wide
+          ∙ ap (λ (s : Spread). over-points addSquare noSpread s (at f))
+          (spreads-at xm first (length ms) lm lf f h ∙ ap (spread (getD xm f nan)) (start f h))
           ∙ points-squares (spread (getD xm f nan) sx2Start) (at f))
 
       line-is : (f : ℕ) → f < length ms → getD (recordsFrom ms sums qs) f noRecord ≡ line (getD ms f 0) (at f)
       unfolding line
       line-is f h =
           from-at ms sums qs length-are lq f h
-          ∙ ap₂ (λ (s : Sums) (q : Float). lineOf (getD ms f 0) (s .len) (s .dot) (s .«sum_x») (s .«sum_y») q) (sums-are f h)
+          ∙ ap₂
+          (λ (s : Sums) (q : Float). lineOf (getD ms f 0) (s .len) (s .dot) (s .«sum_x») (s .«sum_y») q)
+          (sums-are f h)
           (squares-are f h ∙ ap (λ (m : Float). sx2 m (at f)) (mean-at f h ∙ ap (λ (s : Sums). div binary64 (s .«sum_x») (number (s .len))) (sums-are f h)))
 
       pub fitted : recordsFrom ms sums qs ≡ lines ms (map (map decode) (rowsOf (length ms) n cells))
@@ -171,4 +188,6 @@ module _ (ms : List ℕ) (n : ℕ) (cells : List Float) (e : length cells ≡ n 
           ext-getD noRecord (recordsFrom ms sums qs) (tabulate (length ms) (λ f. line (getD ms f 0) (at f)))
           (length-from ms sums qs length-are lq ∙ sym (length-tabulate (length ms) (λ f. line (getD ms f 0) (at f))))
           (λ f h. let l : f < length ms = omega (arith, length-from ms sums qs length-are lq) in line-is f l ∙ sym (getD-tabulate (length ms) (λ f. line (getD ms f 0) (at f)) f noRecord l))
-          ∙ ap (λ (rows : List (List (Option Float))). tabulate (length ms) (λ f. line (getD ms f 0) (points f (keptRows rows)))) (shares-map ms (rowsOf (length ms) n cells))
+          ∙ ap
+          (λ (rows : List (List (Option Float))). tabulate (length ms) (λ f. line (getD ms f 0) (points f (keptRows rows))))
+          (shares-map ms (rowsOf (length ms) n cells))

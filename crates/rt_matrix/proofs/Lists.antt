@@ -32,7 +32,8 @@ module _ {A B : Type 0} (g : A → B → A) where
   upTo-suc zero (d ∷ dst) (s ∷ src) a b h = refl
   upTo-suc (suc j) [] src a b h = refl
   upTo-suc (suc j) (d ∷ dst) [] a b h = absurd (not-suc-le-zero h)
-  upTo-suc (suc j) (d ∷ dst) (s ∷ src) a b h = ap {B = List A} (λ r. g d s ∷ r) (upTo-suc j dst src a b (le-of-suc-le-suc h))
+  upTo-suc (suc j) (d ∷ dst) (s ∷ src) a b h =
+      ap {B = List A} (λ r. g d s ∷ r) (upTo-suc j dst src a b (le-of-suc-le-suc h))
 
   -- all cells
   pub upTo-all : (j : ℕ) (dst : List A) (src : List B) → length dst ≤ j → upTo j dst src ≡ zipped g dst src
@@ -41,9 +42,12 @@ module _ {A B : Type 0} (g : A → B → A) where
   upTo-all zero (d ∷ dst) src h = absurd (not-suc-le-zero h)
   upTo-all (suc j) [] src h = refl
   upTo-all (suc j) (d ∷ dst) [] h = refl
-  upTo-all (suc j) (d ∷ dst) (s ∷ src) h = ap {B = List A} (λ r. g d s ∷ r) (upTo-all j dst src (le-of-suc-le-suc h))
+  upTo-all (suc j) (d ∷ dst) (s ∷ src) h =
+      ap {B = List A} (λ r. g d s ∷ r) (upTo-all j dst src (le-of-suc-le-suc h))
 
   -- a store of that cell
-  pub upTo-step : (j : ℕ) (dst : List A) (src : List B) (l l′ : List A) (v a : A) (b : B) → l ≡ upTo j dst src → l′ ≡ set l j v → v ≡ g (getD dst j a) (getD src j b) → j < length src
+  pub upTo-step : (j : ℕ) (dst : List A) (src : List B) (l l′ : List A) (v a : A) (b : B) → l ≡ upTo j dst src
+      → l′ ≡ set l j v → v ≡ g (getD dst j a) (getD src j b) → j < length src
       → l′ ≡ upTo (j + 1) dst src
-  upTo-step j dst src l l′ v a b e f is h = f ∙ ap₂ (λ (m : List A) (w : A). set m j w) e is ∙ rw add-one (upTo-suc j dst src a b h)
+  upTo-step j dst src l l′ v a b e f is h =
+      f ∙ ap₂ (λ (m : List A) (w : A). set m j w) e is ∙ rw add-one (upTo-suc j dst src a b h)

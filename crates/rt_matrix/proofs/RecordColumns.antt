@@ -179,7 +179,8 @@ columns-long n c l =
 
 -- ---- the records from the files' sums
 
-module _ (ms : List ℕ) (ss : List Sums) (qs : List Float) (hs : length ss ≡ length ms) (hq : length qs ≡ length ms) where
+module _ (ms : List ℕ) (ss : List Sums) (qs : List Float) (hs : length ss ≡ length ms)
+    (hq : length qs ≡ length ms) where
   zipped-long : length (zip ms ss) ≡ length ms
   zipped-long = length-zip ms ss (omega arith)
 

@@ -32,7 +32,8 @@ both true false c d e f = refl
 both false b c d e f = refl
 
 pub six-lengths : (n a b c d e f : ℕ)
-    → (lengthsAgree n (a ∷ b ∷ c ∷ d ∷ []) && (eqb e n && eqb f n)) ≡ lengthsAgree n (a ∷ b ∷ c ∷ d ∷ e ∷ f ∷ [])
+    → (lengthsAgree n (a ∷ b ∷ c ∷ d ∷ []) && (eqb e n && eqb f n))
+    ≡ lengthsAgree n (a ∷ b ∷ c ∷ d ∷ e ∷ f ∷ [])
 unfolding every
 six-lengths n a b c d e f = both (eqb a n) (eqb b n) (eqb c n) (eqb d n) (eqb e n) (eqb f n)
 

@@ -144,7 +144,8 @@ module _ (i : Input) (s : Slices) (p : Passed i (roomOf s)) where
         cond (isSolved (x .outcome))
         (map (predictionOf Retention (i .table) (x .coefficients)) (queries (i .peptide) [])) [])
         retention-fit
-        ∙ ap (λ (x : List Query). cond solved (map (predictionOf Retention (i .table) beta) x) []) queries-of-retention
+        ∙ ap
+        (λ (x : List Query). cond solved (map (predictionOf Retention (i .table) beta) x) []) queries-of-retention
 
     retention-errors : errors Retention (retentionInput observed) ≡ errorsOf ofRetention i
     retention-errors =
@@ -289,7 +290,8 @@ module _ (i : Input) (s : Slices) (p : Passed i (roomOf s)) where
 
 -- ---- the contract
 
-pub run-refused : (i : Input) (s : Slices) (n : ℕ) → n ≡ status i s → (n ≡ 0 → ⊥) → RunCall i (change s s) (Refused n)
+pub run-refused : (i : Input) (s : Slices) (n : ℕ) → n ≡ status i s → (n ≡ 0 → ⊥)
+    → RunCall i (change s s) (Refused n)
 unfolding answerOf slicesAfter
 run-refused i s n e h =
     let test : eqb (status i s) accepted ≡ false = ne-eqb (status i s) 0 (λ z. h (e ∙ z)) in

@@ -52,7 +52,8 @@ module _ (rs : List Row) (fs ps : List ℕ) (ls : List ℤ) (qs ts : List Float)
 
   pub mobility-queries : queries ps cs ≡ map (rowQuery Mobility) rs
   mobility-queries =
-      rw (← (f .peptides-are), ← (f .charges-are)) (queries-map (λ (r : Row). r .peptide) (λ (r : Row). r .charge) rs)
+      rw (← (f .peptides-are), ← (f .charges-are))
+      (queries-map (λ (r : Row). r .peptide) (λ (r : Row). r .charge) rs)
 
   -- the training samples of a model whose queries and targets are these
   pub samples-of : (model : Model) (table : Table) (records : List Alignment) (zs : List ℕ) (observed : List Float)
@@ -80,7 +81,8 @@ module _ (letters offsets : List ℕ) (masses logs : List Float) where
 
 -- ---- predictions and errors of all rows
 
-pub map-twice : {A B C : Type 0} (g : B → C) (f : A → B) (xs : List A) → map g (map f xs) ≡ map (λ x. g (f x)) xs
+pub map-twice : {A B C : Type 0} (g : B → C) (f : A → B) (xs : List A)
+    → map g (map f xs) ≡ map (λ x. g (f x)) xs
 map-twice g f [] = refl
 map-twice g f (x ∷ xs) = ap (λ (t : List _). g (f x) ∷ t) (map-twice g f xs)
 

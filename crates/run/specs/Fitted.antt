@@ -68,7 +68,8 @@ pub record Fitted : Type 0 where
   pub retention : Fit
   pub mobility : Fit
 
-unfoldable pub fileRecords : (files : ℕ) → Table → (maxRts : List ℕ) → (training : List Row) → List Alignment
+unfoldable pub fileRecords : (files : ℕ) → Table → (maxRts : List ℕ) → (training : List Row)
+    → List Alignment
 fileRecords files table maxRts training = alignments files (length (table .masses)) maxRts (map obsOf training)
 
 unfoldable pub fitted : (files : ℕ) → Table → (maxRts : List ℕ) → (training : List Row) → Fitted

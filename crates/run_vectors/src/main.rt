@@ -16,7 +16,7 @@ const LETTERS: usize = 2048;
 const ROWS: usize = 512;
 
 // The workspace of the mobility fit, which is more than the files times the peptides.
-const CELLS: usize = 20200;
+const CELLS: usize = regression::MAX_WORKSPACE;
 
 // Writes 8, 9, or 0 with the ridge, r2, n and the coefficients, and says whether the fit solved.
 fn write_fit(outcome: FitOutcome, beta: &[f64]) -> bool {
@@ -71,10 +71,10 @@ fn answer(
     let mut slope = [held; FILES];
     let mut intercept = [held; FILES];
     let mut aligned = [held; ROWS];
-    let mut retention_beta = [float::widen(held); 69];
+    let mut retention_beta = [float::widen(held); embedding::RETENTION_FEATURES];
     let mut retention_predicted = [held; ROWS];
     let mut retention_error = [held; ROWS];
-    let mut mobility_beta = [float::widen(held); 100];
+    let mut mobility_beta = [float::widen(held); embedding::MOBILITY_FEATURES];
     let mut mobility_predicted = [held; ROWS];
     let mut mobility_error = [held; ROWS];
     let a = run::run(

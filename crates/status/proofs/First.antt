@@ -41,6 +41,7 @@ passed-all (c ∷ cs) n e =
     rw (t .0) (passed-all cs (s .1) (t .1))
 
 -- the check at a place of the list
-pub passed-at : (cs : List (ℕ × Bool)) (k : ℕ) → numbered cs ≡ true → firstFailing cs ≡ accepted → k < length cs
+pub passed-at : (cs : List (ℕ × Bool)) (k : ℕ) → numbered cs ≡ true → firstFailing cs ≡ accepted
+    → k < length cs
     → getD cs k (0, true) .1 ≡ true
 passed-at cs k n e h = every-at (λ (c : ℕ × Bool). c .1) cs k (0, true) (passed-all cs n e) h

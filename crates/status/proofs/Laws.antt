@@ -29,7 +29,8 @@ and-true false b e = (e, cc)
 
 module _ {A : Type 0} (p : A → Bool) where
   -- a loop's step: the element at i and the rest
-  pub every-step : (i : ℕ) (xs : List A) (d : A) → i < length xs → every p (drop i xs) ≡ p (getD xs i d) && every p (drop (suc i) xs)
+  pub every-step : (i : ℕ) (xs : List A) (d : A) → i < length xs
+      → every p (drop i xs) ≡ p (getD xs i d) && every p (drop (suc i) xs)
   unfolding every
   every-step i xs d h = rw (drop-cons xs i d h)
 
@@ -41,7 +42,8 @@ module _ {A : Type 0} (p : A → Bool) where
   every-at (x ∷ xs) (suc i) d e h = every-at xs i d (and-true (p x) (every p xs) e .1) (le-of-suc-le-suc h)
 
   -- and where it passes at each place it passes
-  pub every-all : (xs : List A) (d : A) → ((i : ℕ) → i < length xs → p (getD xs i d) ≡ true) → every p xs ≡ true
+  pub every-all : (xs : List A) (d : A) → ((i : ℕ) → i < length xs → p (getD xs i d) ≡ true)
+      → every p xs ≡ true
   unfolding every
   every-all [] d h = refl
   every-all (x ∷ xs) d h = rw (h 0 (omega arith)) (every-all xs d (λ i l. h (suc i) (omega arith)))
@@ -64,7 +66,8 @@ pub below-at : (n : ℕ) (xs : List ℕ) (i : ℕ) → allBelow n xs ≡ true �
 below-at n xs i e h = ltb-true (getD xs i 0) n (every-at (λ x. ltb x n) xs i 0 e h)
 
 -- a length of a list of lengths that agree
-pub length-at : (n : ℕ) (lengths : List ℕ) (i : ℕ) → lengthsAgree n lengths ≡ true → i < length lengths → getD lengths i 0 ≡ n
+pub length-at : (n : ℕ) (lengths : List ℕ) (i : ℕ) → lengthsAgree n lengths ≡ true → i < length lengths
+    → getD lengths i 0 ≡ n
 length-at n lengths i e h = eqb-true (getD lengths i 0) n (every-at (λ m. eqb m n) lengths i 0 e h)
 
 -- what the limits say
@@ -86,11 +89,18 @@ pub record Limits (files rows peptides : ℕ) : Type 0 where
 
 pub limits : (files rows peptides : ℕ) → withinLimits files rows peptides ≡ true → Limits files rows peptides
 limits files rows peptides e =
-    let s = and-true (leb 1 files && leb files maxFiles && withinRowLimits rows peptides) (leb (peptides * files) maxCells) e in
+    let s =
+    and-true (leb 1 files && leb files maxFiles && withinRowLimits rows peptides) (leb (peptides * files) maxCells) e in
     let t = and-true (leb 1 files && leb files maxFiles) (withinRowLimits rows peptides) (s .0) in
     let u = and-true (leb 1 files) (leb files maxFiles) (t .0) in
     let r = row-limits rows peptides (t .1) in
-    record { files-min = leb-true 1 files (u .0); files-max = leb-true files maxFiles (u .1); rows-max = r .rows-max; peptides-max = r .peptides-max; cells-max = leb-true (peptides * files) maxCells (s .1) }
+    record {
+      files-min = leb-true 1 files (u .0);
+      files-max = leb-true files maxFiles (u .1);
+      rows-max = r .rows-max;
+      peptides-max = r .peptides-max;
+      cells-max = leb-true (peptides * files) maxCells (s .1);
+    }
 
 pub record SystemLimits (n c : ℕ) : Type 0 where
   pub order : n ≤ maxOrder

@@ -54,7 +54,8 @@ pub end-none : (at : ℕ) (o : Option (List ℕ)) → E.Unclosed ≡ lineEnd at 
 end-none at none h = refl
 end-none at (some l) h = cc
 
-pub end-some : (at e : ℕ) (o : Option (List ℕ)) → E.At e ≡ lineEnd at o → (l : List ℕ) × (o ≡ some l) × (e ≡ at + length l)
+pub end-some : (at e : ℕ) (o : Option (List ℕ)) → E.At e ≡ lineEnd at o
+    → (l : List ℕ) × (o ≡ some l) × (e ≡ at + length l)
 end-some at e none h = let z : _≡_ {A = ℕ} 0 1 = cc in absurd (omega arith)
 end-some at e (some l) h = (l, refl, (cc))
 
@@ -66,7 +67,9 @@ module _ (text : List ℕ) (at : ℕ) (l : List ℕ) (h : lineOf (drop at text) 
       omega (arith, simp (length-drop, length-append) at e)
 
   pub line-part : take (length l) (drop at text) ≡ l
-  line-part = ap (take (length l)) (line-is (drop at text) l h) ∙ take-append-seam l (10 ∷ drop (suc (length l)) (drop at text))
+  line-part =
+      ap (take (length l)) (line-is (drop at text) l h)
+      ∙ take-append-seam l (10 ∷ drop (suc (length l)) (drop at text))
 
 -- ---- whether a text begins with a key
 pub starts-short : (key s : List ℕ) → length s < length key → startsWith key s ≡ false
@@ -103,12 +106,14 @@ module _ (text : List ℕ) (at e : ℕ) (h : E.At e ≡ lineEnd at (lineOf (drop
       ap (λ (n : ℕ). take n (drop at text)) k ∙ line-part text at (from-end .0) (from-end .1)
 
   module _ (key : List ℕ) where
-    pub value-found : startsWith key (take (e - at) (drop at text)) ≡ true → valueAt at key (lineOf (drop at text)) ≡ VA.Found (at + length key) e
+    pub value-found : startsWith key (take (e - at) (drop at text)) ≡ true
+        → valueAt at key (lineOf (drop at text)) ≡ VA.Found (at + length key) e
     value-found s =
         ap (valueAt at key) (from-end .1)
         ∙ simp (ap (startsWith key) (sym end-part) ∙ s) (ap (VA.Found (at + length key)) (sym (from-end .2)))
 
-    pub value-none : startsWith key (take (e - at) (drop at text)) ≡ false → valueAt at key (lineOf (drop at text)) ≡ VA.Malformed
+    pub value-none : startsWith key (take (e - at) (drop at text)) ≡ false
+        → valueAt at key (lineOf (drop at text)) ≡ VA.Malformed
     value-none s = ap (valueAt at key) (from-end .1) ∙ simp (ap (startsWith key) (sym end-part) ∙ s)
 
     pub key-le : startsWith key (take (e - at) (drop at text)) ≡ true → at + length key ≤ e
@@ -116,21 +121,27 @@ module _ (text : List ℕ) (at e : ℕ) (h : E.At e ≡ lineEnd at (lineOf (drop
 
 -- ---- what is read from the line whose value stands from f to e
 module _ {A : Type 0} (read : List ℕ → Option A) (text : List ℕ) (at : ℕ) (key : List ℕ) where
-  value-cases : (o : Option (List ℕ)) → VA.Malformed ≡ valueAt at key o → inLine (keyed key read) o ≡ malformed
+  value-cases : (o : Option (List ℕ)) → VA.Malformed ≡ valueAt at key o
+      → inLine (keyed key read) o ≡ malformed
   unfolding keyed
   value-cases none h = refl
   value-cases (some l) h =
       by-bool (startsWith key l) (λ t. let z : _≡_ {A = ℕ} 0 1 = cc in absurd (omega arith)) (λ t. simp t)
 
-  pub line-malformed : VA.Malformed ≡ valueAt at key (lineOf (drop at text)) → firstLine (keyed key read) (drop at text) ≡ malformed
+  pub line-malformed : VA.Malformed ≡ valueAt at key (lineOf (drop at text))
+      → firstLine (keyed key read) (drop at text) ≡ malformed
   unfolding firstLine
   line-malformed h = value-cases (lineOf (drop at text)) h
 
-module _ (text : List ℕ) (at : ℕ) (key : List ℕ) (f e : ℕ) (h : VA.Found f e ≡ valueAt at key (lineOf (drop at text))) where
-  value-is : (o : Option (List ℕ)) → VA.Found f e ≡ valueAt at key o → (l : List ℕ) × (o ≡ some l) × (startsWith key l ≡ true) × (f ≡ at + length key) × (e ≡ at + length l)
+module _ (text : List ℕ) (at : ℕ) (key : List ℕ) (f e : ℕ)
+    (h : VA.Found f e ≡ valueAt at key (lineOf (drop at text))) where
+  value-is : (o : Option (List ℕ)) → VA.Found f e ≡ valueAt at key o
+      → (l : List ℕ) × (o ≡ some l) × (startsWith key l ≡ true) × (f ≡ at + length key) ×
+      (e ≡ at + length l)
   value-is none g = let z : _≡_ {A = ℕ} 0 1 = cc in absurd (omega arith)
   value-is (some l) g =
-      by-bool (startsWith key l) (λ t. (l, refl, t, (cc), (cc))) (λ t. let z : _≡_ {A = ℕ} 0 1 = cc in absurd (omega arith))
+      by-bool (startsWith key l) (λ t. (l, refl, t, (cc), (cc)))
+      (λ t. let z : _≡_ {A = ℕ} 0 1 = cc in absurd (omega arith))
 
   found : (l : List ℕ) × (lineOf (drop at text) ≡ some l) × (startsWith key l ≡ true) × (f ≡ at + length key) × (e ≡ at + length l)
   found = value-is (lineOf (drop at text)) h
@@ -156,7 +167,8 @@ module _ (text : List ℕ) (at : ℕ) (key : List ℕ) (f e : ℕ) (h : VA.Found
       ∙ drop-append-le k l r (starts-length key l (found .2)) in
       ap (take (e - f)) d ∙ take-at (drop k l) r (e - f) (rw length-drop (omega (arith, found .3, found .4)))
 
-  pub line-found : {A : Type 0} (read : List ℕ → Option A) → firstLine (keyed key read) (drop at text) ≡ lineRead (e - at) (read (take (e - f) (drop f text)))
+  pub line-found : {A : Type 0} (read : List ℕ → Option A)
+      → firstLine (keyed key read) (drop at text) ≡ lineRead (e - at) (read (take (e - f) (drop f text)))
   unfolding firstLine keyed
   line-found read =
       let k : length (found .0) ≡ e - at = omega (arith, found .4) in
@@ -167,10 +179,12 @@ module _ (text : List ℕ) (at : ℕ) (key : List ℕ) (f e : ℕ) (h : VA.Found
   next-is = omega (arith, found-at)
 
   module _ {A : Type 0} (read : List ℕ → Option A) where
-    pub line-none : read (take (e - f) (drop f text)) ≡ none → firstLine (keyed key read) (drop at text) ≡ malformed
+    pub line-none : read (take (e - f) (drop f text)) ≡ none
+        → firstLine (keyed key read) (drop at text) ≡ malformed
     line-none h = line-found read ∙ ap (lineRead (e - at)) h
 
-    pub line-some : (a : A) → read (take (e - f) (drop f text)) ≡ some a → firstLine (keyed key read) (drop at text) ≡ value a (e - at + 1)
+    pub line-some : (a : A) → read (take (e - f) (drop f text)) ≡ some a
+        → firstLine (keyed key read) (drop at text) ≡ value a (e - at + 1)
     line-some a h = line-found read ∙ ap (lineRead (e - at)) h
 
 -- ---- numbers

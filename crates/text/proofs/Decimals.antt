@@ -31,7 +31,8 @@ unfolding decimalOnto
 onto-short zero n s h = refl
 onto-short (suc k) n s h = simp (lt-ltb n 10 h)
 
-pub onto-more : (k n : ℕ) (s : List ℕ) → 10 ≤ n → decimalOnto (suc k) n s ≡ decimalOnto k (n / 10) ((48 + n % 10) ∷ s)
+pub onto-more : (k n : ℕ) (s : List ℕ) → 10 ≤ n
+    → decimalOnto (suc k) n s ≡ decimalOnto k (n / 10) ((48 + n % 10) ∷ s)
 unfolding decimalOnto
 onto-more k n s h = simp (le-ltb n 10 h)
 
@@ -43,15 +44,21 @@ onto-any (suc k) (suc j) n s h l =
     by-lt n 10 (λ b. onto-short (suc k) n s b ∙ sym (onto-short (suc j) n s b))
     (λ b. onto-more k n s b ∙ onto-any k j (n / 10) ((48 + n % 10) ∷ s) (omega arith) (omega arith) ∙ sym (onto-more j n s b))
 
-pub onto-long : (n : ℕ) (s : List ℕ) → 10 ≤ n → decimalOnto n n s ≡ decimalOnto (n / 10) (n / 10) ((48 + n % 10) ∷ s)
+pub onto-long : (n : ℕ) (s : List ℕ) → 10 ≤ n
+    → decimalOnto n n s ≡ decimalOnto (n / 10) (n / 10) ((48 + n % 10) ∷ s)
 onto-long zero s h = absurd (omega arith)
-onto-long (suc n) s h = onto-more n (suc n) s h ∙ onto-any n (suc n / 10) (suc n / 10) ((48 + suc n % 10) ∷ s) (omega arith) (omega arith)
+onto-long (suc n) s h =
+    onto-more n (suc n) s h
+    ∙ onto-any n (suc n / 10) (suc n / 10) ((48 + suc n % 10) ∷ s) (omega arith) (omega arith)
 
-onto-digit : (v d : ℕ) (s : List ℕ) → 1 ≤ v → d < 10 → decimalOnto (v * 10 + d) (v * 10 + d) s ≡ decimalOnto v v ((48 + d) ∷ s)
+onto-digit : (v d : ℕ) (s : List ℕ) → 1 ≤ v → d < 10
+    → decimalOnto (v * 10 + d) (v * 10 + d) s ≡ decimalOnto v v ((48 + d) ∷ s)
 onto-digit v d s h l =
     let q : (v * 10 + d) / 10 ≡ v = omega arith in
     let r : (v * 10 + d) % 10 ≡ d = omega arith in
-    onto-long (v * 10 + d) s (omega arith) ∙ ap (λ (x : ℕ). decimalOnto x x ((48 + (v * 10 + d) % 10) ∷ s)) q ∙ ap (λ (x : ℕ). decimalOnto v v ((48 + x) ∷ s)) r
+    onto-long (v * 10 + d) s (omega arith)
+    ∙ ap (λ (x : ℕ). decimalOnto x x ((48 + (v * 10 + d) % 10) ∷ s)) q
+    ∙ ap (λ (x : ℕ). decimalOnto v v ((48 + x) ∷ s)) r
 
 -- ---- reading
 digit-is : (c : ℕ) → isDigit c ≡ true → (48 ≤ c) × (c ≤ 57)
@@ -67,7 +74,8 @@ module _ (max v : ℕ) where
   unfolding readFrom
   from-end h = simp (le-leb v max h)
 
-  pub from-digit : (c : ℕ) (s : List ℕ) → 48 ≤ c → c ≤ 57 → readFrom max v (c ∷ s) ≡ readFrom max (v * 10 + (c - 48)) s
+  pub from-digit : (c : ℕ) (s : List ℕ) → 48 ≤ c → c ≤ 57
+      → readFrom max v (c ∷ s) ≡ readFrom max (v * 10 + (c - 48)) s
   unfolding readFrom
   from-digit c s h l = simp (is-digit c h l)
 
@@ -85,7 +93,8 @@ module _ (max v : ℕ) where
       by-bool (leb v max) (λ t. let e : v ≡ n = cc in (e, subst (λ (x : ℕ). x ≤ max) e (leb-true v max t)))
       (λ t. let z : _≡_ {A = ℕ} 0 1 = cc in absurd (omega arith))
 
-  digit-sound : (c n : ℕ) (s : List ℕ) → readFrom max v (c ∷ s) ≡ some n → (48 ≤ c) × (c ≤ 57) × (readFrom max (v * 10 + (c - 48)) s ≡ some n)
+  digit-sound : (c n : ℕ) (s : List ℕ) → readFrom max v (c ∷ s) ≡ some n
+      → (48 ≤ c) × (c ≤ 57) × (readFrom max (v * 10 + (c - 48)) s ≡ some n)
   unfolding readFrom
   digit-sound c n s h =
       by-bool (isDigit c) (λ t. let d = digit-is c t in (d .0, d .1, (cc)))
@@ -95,10 +104,12 @@ module _ (max v : ℕ) where
 pub from-over : (max v : ℕ) (s : List ℕ) → max < v → readFrom max v s ≡ none
 unfolding readFrom
 from-over max v [] h = simp (lt-leb v max h)
-from-over max v (c ∷ s) h = by-bool (isDigit c) (λ t. simp (t, from-over max (v * 10 + (c - 48)) s (omega arith))) (λ t. simp t)
+from-over max v (c ∷ s) h =
+    by-bool (isDigit c) (λ t. simp (t, from-over max (v * 10 + (c - 48)) s (omega arith))) (λ t. simp t)
 
 -- v's digits and then s are those of the number that is read
-from-sound : (max v n : ℕ) (s : List ℕ) → 1 ≤ v → readFrom max v s ≡ some n → (decimalOnto v v s ≡ decimalOf n) × (n ≤ max)
+from-sound : (max v n : ℕ) (s : List ℕ) → 1 ≤ v → readFrom max v s ≡ some n
+    → (decimalOnto v v s ≡ decimalOf n) × (n ≤ max)
 unfolding decimalOf
 from-sound max v n [] p h = let e = end-sound max v n h in (ap (λ (x : ℕ). decimalOnto x x []) (e .0), e .1)
 from-sound max v n (c ∷ s) p h =
@@ -111,7 +122,9 @@ from-sound max v n (c ∷ s) p h =
 from-short : (max k v : ℕ) (s : List ℕ) → v < 10 → readFrom max 0 (decimalOnto k v s) ≡ readFrom max v s
 from-short max k v s b =
     let e : 0 * 10 + (48 + v - 48) ≡ v = omega arith in
-    ap (readFrom max 0) (onto-short k v s b) ∙ from-digit max 0 (48 + v) s (omega arith) (omega arith) ∙ ap (λ (x : ℕ). readFrom max x s) e
+    ap (readFrom max 0) (onto-short k v s b)
+    ∙ from-digit max 0 (48 + v) s (omega arith) (omega arith)
+    ∙ ap (λ (x : ℕ). readFrom max x s) e
 
 from-onto : (max k v : ℕ) (s : List ℕ) → v ≤ k → readFrom max 0 (decimalOnto k v s) ≡ readFrom max v s
 from-onto max zero v s h = from-short max zero v s (omega arith)
@@ -168,7 +181,8 @@ decimal-complete max zero h = from-end max 0 h
 decimal-complete max (suc n) h =
     simp (
       ne-eqb (length (decimalOnto (suc n) (suc n) [])) 0 (omega (arith, onto-length (suc n) (suc n) [])),
-      ne-eqb (getD (decimalOnto (suc n) (suc n) []) 0 0) 48 (λ z. omega (arith, onto-first (suc n) (suc n) [] (omega arith) (omega arith))),
+      ne-eqb (getD (decimalOnto (suc n) (suc n) []) 0 0) 48
+          (λ z. omega (arith, onto-first (suc n) (suc n) [] (omega arith) (omega arith))),
       and-false,
       from-onto max (suc n) (suc n) [] (omega arith),
     )
@@ -183,7 +197,8 @@ decimal-sound max n (c ∷ []) h =
     let x : 48 + n ≡ c = omega arith in
     (sym (onto-short n n [] (omega arith) ∙ ap (λ (y : ℕ). y ∷ []) x), e .1)
 decimal-sound max n (c ∷ b ∷ s) h =
-    let g = simp (ne-eqb (suc (suc (length s))) 0 (λ z. omega arith), lt-ltb 1 (suc (suc (length s))) (omega arith)) at h in
+    let g =
+    simp (ne-eqb (suc (suc (length s))) 0 (λ z. omega arith), lt-ltb 1 (suc (suc (length s))) (omega arith)) at h in
     by-bool (eqb c 48) (λ t. some-none (some n) n refl (sym (simp t at g)))
     (λ t.
     let d = digit-sound max 0 c n (b ∷ s) (simp t at g) in

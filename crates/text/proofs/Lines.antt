@@ -44,12 +44,14 @@ line-is (c ∷ s) l h =
     by-bool (eqb c 10)
     (λ t.
     let e : [] ≡ l = cc in
-    subst (λ (m : List ℕ). c ∷ s ≡ m ++ 10 ∷ drop (suc (length m)) (c ∷ s)) e (ap (λ (x : ℕ). x ∷ s) (eqb-true c 10 t)))
+    subst (λ (m : List ℕ). c ∷ s ≡ m ++ 10 ∷ drop (suc (length m)) (c ∷ s)) e
+    (ap (λ (x : ℕ). x ∷ s) (eqb-true c 10 t)))
     (λ t.
     by-option (lineOf s) (λ o. some-none (lineOf (c ∷ s)) l h (simp (t, o)))
     (λ m o.
     let e : c ∷ m ≡ l = cc in
-    subst (λ (m : List ℕ). c ∷ s ≡ m ++ 10 ∷ drop (suc (length m)) (c ∷ s)) e (ap (λ (x : List ℕ). c ∷ x) (line-is s m o))))
+    subst (λ (m : List ℕ). c ∷ s ≡ m ++ 10 ∷ drop (suc (length m)) (c ∷ s)) e
+    (ap (λ (x : List ℕ). c ∷ x) (line-is s m o))))
 
 -- ---- a key
 pub starts-append : (key s : List ℕ) → startsWith key (key ++ s) ≡ true
@@ -77,9 +79,11 @@ pub record Spells {A : Type 0} (read : List ℕ → Option A) (text : A → List
 -- read takes off the front of a text the texts of the values that are Ok, each as its value, and nothing else
 pub record Reads {A : Type 0} (read : Reader A) (text : A → List ℕ) (Ok : A → Type 0) : Type 0 where
   pub complete : (a : A) (s : List ℕ) → Ok a → read (text a ++ s) ≡ value a (length (text a))
-  pub sound : (a : A) (n : ℕ) (s : List ℕ) → read s ≡ value a n → Ok a × (n ≡ length (text a)) × (s ≡ text a ++ drop n s)
+  pub sound : (a : A) (n : ℕ) (s : List ℕ) → read s ≡ value a n
+      → Ok a × (n ≡ length (text a)) × (s ≡ text a ++ drop n s)
 
-module _ {A : Type 0} (read : List ℕ → Option A) (text : A → List ℕ) (Ok : A → Type 0) (key : List ℕ) (k : lineOf key ≡ none) (r : Spells read text Ok) where
+module _ {A : Type 0} (read : List ℕ → Option A) (text : A → List ℕ) (Ok : A → Type 0) (key : List ℕ)
+    (k : lineOf key ≡ none) (r : Spells read text Ok) where
   keyed-sound : (a : A) (s : List ℕ) → keyed key read s ≡ some a → Ok a × (s ≡ key ++ text a)
   unfolding keyed
   keyed-sound a s h =
@@ -100,7 +104,8 @@ pub value-malformed : {A P : Type 0} (a : A) (n : ℕ) → malformed ≡ value a
 value-malformed a n h = let z : _≡_ {A = ℕ} 0 1 = cc in absurd (omega arith)
 
 -- what the first line is, where a value is read from it
-first-sound : {A : Type 0} (read : List ℕ → Option A) (a : A) (n : ℕ) (s : List ℕ) → firstLine read s ≡ value a n
+first-sound : {A : Type 0} (read : List ℕ → Option A) (a : A) (n : ℕ) (s : List ℕ)
+    → firstLine read s ≡ value a n
     → (l : List ℕ) × (lineOf s ≡ some l) × (read l ≡ some a) × (n ≡ length l + 1)
 unfolding firstLine
 first-sound read a n s h =
@@ -111,11 +116,14 @@ first-sound read a n s h =
     let e : value b (length l + 1) ≡ value a n = simp (o, p) at h in
     (l, o, (cc), (cc))))
 
-module _ {A : Type 0} (read : List ℕ → Option A) (text : A → List ℕ) (Ok : A → Type 0) (r : Spells read text Ok) where
-  first-complete : (a : A) (s : List ℕ) → Ok a → firstLine read (text a ++ (10 ∷ []) ++ s) ≡ value a (length (text a ++ (10 ∷ [])))
+module _ {A : Type 0} (read : List ℕ → Option A) (text : A → List ℕ) (Ok : A → Type 0)
+    (r : Spells read text Ok) where
+  first-complete : (a : A) (s : List ℕ) → Ok a
+      → firstLine read (text a ++ (10 ∷ []) ++ s) ≡ value a (length (text a ++ (10 ∷ [])))
   unfolding firstLine
   first-complete a s o =
-      simp (append-snoc (text a) 10 s, line-of (text a) s (r .clean a o), r .complete a o, length-append (text a) (10 ∷ []))
+      simp
+      (append-snoc (text a) 10 s, line-of (text a) s (r .clean a o), r .complete a o, length-append (text a) (10 ∷ []))
 
   pub first-reads : Reads (firstLine read) (λ a. text a ++ (10 ∷ [])) Ok
   first-reads =
@@ -134,38 +142,45 @@ module _ {A : Type 0} (read : List ℕ → Option A) (text : A → List ℕ) (Ok
       }
 
 -- ---- a reader and then another
-bind-sound : {A B : Type 0} (r : Reader A) (f : A → Reader B) (b : B) (k : ℕ) (s : List ℕ) → (r >>= f) s ≡ value b k
+bind-sound : {A B : Type 0} (r : Reader A) (f : A → Reader B) (b : B) (k : ℕ) (s : List ℕ)
+    → (r >>= f) s ≡ value b k
     → (a : A) × (n : ℕ) × (m : ℕ) × (r s ≡ value a n) × (f a (drop n s) ≡ value b m) × (k ≡ n + m)
 bind-sound {A} r f b k s = go (r s) refl
   where
-    more : (a : A) (n : ℕ) → r s ≡ value a n → (x : Read _) → f a (drop n s) ≡ x → further n x ≡ value b k
+    more : (a : A) (n : ℕ) → r s ≡ value a n → (x : Read _) → f a (drop n s) ≡ x
+        → further n x ≡ value b k
         → (a : A) × (n : ℕ) × (m : ℕ) × (r s ≡ value a n) × (f a (drop n s) ≡ value b m) × (k ≡ n + m)
     more a n e (value c m) g h = (a, n, m, e, (cc), (cc))
     more a n e malformed g h = value-malformed b k h
 
-    go : (x : Read A) → r s ≡ x → onward x f s ≡ value b k → (a : A) × (n : ℕ) × (m : ℕ) × (r s ≡ value a n) × (f a (drop n s) ≡ value b m) × (k ≡ n + m)
+    go : (x : Read A) → r s ≡ x → onward x f s ≡ value b k
+        → (a : A) × (n : ℕ) × (m : ℕ) × (r s ≡ value a n) × (f a (drop n s) ≡ value b m) × (k ≡ n + m)
     go (value a n) e h = more a n e (f a (drop n s)) refl h
     go malformed e h = value-malformed b k h
 
-bind-complete : {A B : Type 0} (r : Reader A) (f : A → Reader B) (a : A) (b : B) (n m : ℕ) (s : List ℕ) → r s ≡ value a n → f a (drop n s) ≡ value b m → (r >>= f) s ≡ value b (n + m)
+bind-complete : {A B : Type 0} (r : Reader A) (f : A → Reader B) (a : A) (b : B) (n m : ℕ) (s : List ℕ)
+    → r s ≡ value a n → f a (drop n s) ≡ value b m → (r >>= f) s ≡ value b (n + m)
 bind-complete r f a b n m s h g = simp (h, g)
 
 -- f makes of each part of a value that is Ok a reader of the rest of that value's text, where what comes after it may
 -- follow
 pub record Continues {C B : Type 0} (f : C → Reader B) (part : B → C) (text : B → List ℕ) (Ok : B → Type 0) (After : List ℕ → Type 0) : Type 0 where
   pub complete : (b : B) (s : List ℕ) → Ok b → After s → f (part b) (text b ++ s) ≡ value b (length (text b))
-  pub sound : (c : C) (b : B) (n : ℕ) (s : List ℕ) → f c s ≡ value b n → (part b ≡ c) × Ok b × After (drop n s) × (n ≡ length (text b)) × (s ≡ text b ++ drop n s)
+  pub sound : (c : C) (b : B) (n : ℕ) (s : List ℕ) → f c s ≡ value b n
+      → (part b ≡ c) × Ok b × After (drop n s) × (n ≡ length (text b)) × (s ≡ text b ++ drop n s)
 
 -- one part more, read first
 module _ {A B C : Type 0} (r : Reader A) (head : A → List ℕ) (OkA : A → Type 0) (reads : Reads r head OkA)
     (f : C → A → Reader B) (outer : B → C) (part : B → A) (text : B → List ℕ) (Ok : B → Type 0) (After : List ℕ → Type 0)
     (rest : Continues {C = C × A} (λ c. f (c .0) (c .1)) (λ b. (outer b, part b)) text Ok After) where
-  then-complete : (b : B) (s : List ℕ) → OkA (part b) × Ok b → After s → (r >>= f (outer b)) (head (part b) ++ text b ++ s) ≡ value b (length (head (part b) ++ text b))
+  then-complete : (b : B) (s : List ℕ) → OkA (part b) × Ok b → After s
+      → (r >>= f (outer b)) (head (part b) ++ text b ++ s) ≡ value b (length (head (part b) ++ text b))
   then-complete b s o w =
       let a = part b in
       let n = length (head a) in
       let e : head a ++ text b ++ s ≡ head a ++ (text b ++ s) = append-assoc (head a) (text b) s in
-      let d : drop n (head a ++ text b ++ s) ≡ text b ++ s = ap (drop n) e ∙ drop-append-seam (head a) (text b ++ s) in
+      let d : drop n (head a ++ text b ++ s) ≡ text b ++ s =
+      ap (drop n) e ∙ drop-append-seam (head a) (text b ++ s) in
       bind-complete r (f (outer b)) a b n (length (text b)) (head a ++ text b ++ s)
       (ap r e ∙ reads .complete a (text b ++ s) (o .0))
       (ap (f (outer b) a) d ∙ rest .complete b s (o .1) w)
@@ -196,7 +211,8 @@ module _ {A B C : Type 0} (r : Reader A) (head : A → List ℕ) (OkA : A → Ty
   then-continues = record { complete = then-complete; sound = then-sound }
 
 -- the value is whole
-pub give-continues : {C B : Type 0} (make : C → B) (part : B → C) → ((b : B) → make (part b) ≡ b) → ((c : C) → part (make c) ≡ c)
+pub give-continues : {C B : Type 0} (make : C → B) (part : B → C) → ((b : B) → make (part b) ≡ b)
+    → ((c : C) → part (make c) ≡ c)
     → Continues (λ c. give (make c)) part (λ b. []) (λ b. Unit {0}) (λ s. Unit {0})
 give-continues make part back forth =
     record {

@@ -63,9 +63,11 @@ decimal-spells max =
 hex-sound : (k v : ℕ) (s : List ℕ) → readHexDigits k s ≡ some v → (v < 16 ^ k) × (s ≡ hexOf k v)
 unfolding readHexDigits
 hex-sound k v s h =
-    by-bool (eqb (length s) k) (λ t. go (readHex s) refl (simp t at h) (eqb-true (length s) k t)) (λ t. some-none (readHexDigits k s) v h (simp t))
+    by-bool (eqb (length s) k) (λ t. go (readHex s) refl (simp t at h) (eqb-true (length s) k t))
+    (λ t. some-none (readHexDigits k s) v h (simp t))
   where
-    go : (x : HexRead) → readHex s ≡ x → hexNumber x ≡ some v → length s ≡ k → (v < 16 ^ k) × (s ≡ hexOf k v)
+    go : (x : HexRead) → readHex s ≡ x → hexNumber x ≡ some v → length s ≡ k
+        → (v < 16 ^ k) × (s ≡ hexOf k v)
     go (Value w) e g l =
         let f : w ≡ v = cc in
         let r = readHex-reads s v (e ∙ ap Value f) in
@@ -87,16 +89,19 @@ hex-spells k h l =
 signed-complete : (z : ℤ) → mag z < 2 ^ 31 → readSigned (decimalZ z) ≡ some z
 unfolding readSigned decimalZ negative nonNegative
 signed-complete (pos n) h =
-    simp (ne-eqb (getD (decimalOf n) 0 0) 45 (λ e. omega (arith, decimal-first n)), decimal-complete (2 ^ 31 - 1) n (omega arith))
+    simp
+    (ne-eqb (getD (decimalOf n) 0 0) 45 (λ e. omega (arith, decimal-first n)), decimal-complete (2 ^ 31 - 1) n (omega arith))
 signed-complete (negsuc n) h = simp (decimal-complete (2 ^ 31) (suc n) h)
 
-negative-sound : (o : Option ℕ) (z : ℤ) → negative o ≡ some z → (n : ℕ) × (o ≡ some (suc n)) × (negsuc n ≡ z)
+negative-sound : (o : Option ℕ) (z : ℤ) → negative o ≡ some z
+    → (n : ℕ) × (o ≡ some (suc n)) × (negsuc n ≡ z)
 unfolding negative
 negative-sound none z h = some-none (some z) z refl (sym h)
 negative-sound (some zero) z h = some-none (some z) z refl (sym h)
 negative-sound (some (suc n)) z h = (n, refl, (cc))
 
-nonNegative-sound : (o : Option ℕ) (z : ℤ) → nonNegative o ≡ some z → (n : ℕ) × (o ≡ some n) × (pos n ≡ z)
+nonNegative-sound : (o : Option ℕ) (z : ℤ) → nonNegative o ≡ some z
+    → (n : ℕ) × (o ≡ some n) × (pos n ≡ z)
 unfolding nonNegative
 nonNegative-sound none z h = some-none (some z) z refl (sym h)
 nonNegative-sound (some n) z h = (n, refl, (cc))
@@ -120,11 +125,13 @@ unfolding negative
 negative-is zero h = absurd (h refl)
 negative-is (suc n) h = let e : suc n - 1 ≡ n = omega arith in ap (λ (k : ℕ). some (negsuc k)) (sym e)
 
-pub signed-plain : (s : List ℕ) → eqb (getD s 0 0) 45 ≡ false → readSigned s ≡ nonNegative (readDecimal (2 ^ 31 - 1) s)
+pub signed-plain : (s : List ℕ) → eqb (getD s 0 0) 45 ≡ false
+    → readSigned s ≡ nonNegative (readDecimal (2 ^ 31 - 1) s)
 unfolding readSigned
 signed-plain s h = simp h
 
-plain-sound : (z : ℤ) (s : List ℕ) → eqb (getD s 0 0) 45 ≡ false → readSigned s ≡ some z → (mag z < 2 ^ 31) × (s ≡ decimalZ z)
+plain-sound : (z : ℤ) (s : List ℕ) → eqb (getD s 0 0) 45 ≡ false → readSigned s ≡ some z
+    → (mag z < 2 ^ 31) × (s ≡ decimalZ z)
 unfolding decimalZ
 plain-sound z s t h =
     let w = nonNegative-sound (readDecimal (2 ^ 31 - 1) s) z (sym (signed-plain s t) ∙ h) in
@@ -138,7 +145,9 @@ signed-sound z (c ∷ s) h =
     by-bool (eqb c 45)
     (λ t.
     let e = eqb-true c 45 t in
-    let w = negative-sound (readDecimal (2 ^ 31) s) z (sym (signed-minus s) ∙ ap (λ (x : ℕ). readSigned (x ∷ s)) (sym e) ∙ h) in
+    let w =
+    negative-sound (readDecimal (2 ^ 31) s) z
+    (sym (signed-minus s) ∙ ap (λ (x : ℕ). readSigned (x ∷ s)) (sym e) ∙ h) in
     let d = decimal-sound (2 ^ 31) (suc (w .0)) s (w .1) in
     subst (λ (z : ℤ). (mag z < 2 ^ 31) × (c ∷ s ≡ decimalZ z)) (w .2)
     (omega arith, ap (λ (x : ℕ). x ∷ s) e ∙ ap (λ (x : List ℕ). 45 ∷ x) (d .0)))
@@ -157,6 +166,7 @@ module _ (key : List ℕ) (clean : lineOf key ≡ none) where
   unfolding signedLine
   signed-line-reads = first-reads _ _ _ (keyed-spells _ _ _ key clean signed-spells)
 
-  pub hex-line-reads : (k : ℕ) → 1 ≤ k → k ≤ 16 → Reads (hexLine key k) (λ v. line key (hexOf k v)) (λ v. v < 16 ^ k)
+  pub hex-line-reads : (k : ℕ) → 1 ≤ k → k ≤ 16
+      → Reads (hexLine key k) (λ v. line key (hexOf k v)) (λ v. v < 16 ^ k)
   unfolding hexLine
   hex-line-reads k h l = first-reads _ _ _ (keyed-spells _ _ _ key clean (hex-spells k h l))

@@ -17,7 +17,8 @@ pub decimal-line-none : (at : ℕ) (x : Read ℕ) → DL.Malformed ≡ decimalLi
 decimal-line-none at (value v n) h = cc
 decimal-line-none at malformed h = refl
 
-pub decimal-line-some : (at v next : ℕ) (x : Read ℕ) → DL.Value v next ≡ decimalLineAt at x → (n : ℕ) × (x ≡ value v n) × (next ≡ at + n)
+pub decimal-line-some : (at v next : ℕ) (x : Read ℕ) → DL.Value v next ≡ decimalLineAt at x
+    → (n : ℕ) × (x ≡ value v n) × (next ≡ at + n)
 decimal-line-some at v next (value w n) h = let e : w ≡ v = cc in (n, ap (λ (y : ℕ). value y n) e, (cc))
 decimal-line-some at v next malformed h = let z : _≡_ {A = ℕ} 0 1 = cc in absurd (omega arith)
 
@@ -25,7 +26,8 @@ pub signed-line-none : (at : ℕ) (x : Read ℤ) → SL.Malformed ≡ signedLine
 signed-line-none at (value v n) h = cc
 signed-line-none at malformed h = refl
 
-pub signed-line-some : (at : ℕ) (v : ℤ) (next : ℕ) (x : Read ℤ) → SL.Value v next ≡ signedLineAt at x → (n : ℕ) × (x ≡ value v n) × (next ≡ at + n)
+pub signed-line-some : (at : ℕ) (v : ℤ) (next : ℕ) (x : Read ℤ) → SL.Value v next ≡ signedLineAt at x
+    → (n : ℕ) × (x ≡ value v n) × (next ≡ at + n)
 signed-line-some at v next (value w n) h = let e : w ≡ v = cc in (n, ap (λ (y : ℤ). value y n) e, (cc))
 signed-line-some at v next malformed h = let z : _≡_ {A = ℕ} 0 1 = cc in absurd (omega arith)
 
@@ -33,17 +35,21 @@ pub hex-line-none : (at : ℕ) (x : Read ℕ) → HL.Malformed ≡ hexLineAt at 
 hex-line-none at (value v n) h = cc
 hex-line-none at malformed h = refl
 
-pub hex-line-some : (at v next : ℕ) (x : Read ℕ) → HL.Value v next ≡ hexLineAt at x → (n : ℕ) × (x ≡ value v n) × (next ≡ at + n)
+pub hex-line-some : (at v next : ℕ) (x : Read ℕ) → HL.Value v next ≡ hexLineAt at x
+    → (n : ℕ) × (x ≡ value v n) × (next ≡ at + n)
 hex-line-some at v next (value w n) h = let e : w ≡ v = cc in (n, ap (λ (y : ℕ). value y n) e, (cc))
 hex-line-some at v next malformed h = let z : _≡_ {A = ℕ} 0 1 = cc in absurd (omega arith)
 
--- ---- the answer of a chain: that of its rest, from the place after its first reader. `answer at x` is the answer for what was read from at on.
+-- ---- the answer of a chain: that of its rest, from the place after its first reader
+
+-- `answer at x` is the answer for what was read from at on
 module _ {A B R : Type 0} (answer : ℕ → Read B → R) (slide : (at n : ℕ) (x : Read B) → answer at (further n x) ≡ answer (at + n) x)
     (t : List ℕ) (r : Reader A) (f : A → Reader B) (at : ℕ) where
   pub chain-none : r (drop at t) ≡ malformed → answer at ((r >>= f) (drop at t)) ≡ answer at malformed
   chain-none h = ap (λ (x : Read A). answer at (onward x f (drop at t))) h
 
-  pub chain-some : (a : A) (next : ℕ) → (n : ℕ) × (r (drop at t) ≡ value a n) × (next ≡ at + n) → answer at ((r >>= f) (drop at t)) ≡ answer next (f a (drop next t))
+  pub chain-some : (a : A) (next : ℕ) → (n : ℕ) × (r (drop at t) ≡ value a n) × (next ≡ at + n)
+      → answer at ((r >>= f) (drop at t)) ≡ answer next (f a (drop next t))
   chain-some a next w =
       ap (λ (x : Read A). answer at (onward x f (drop at t))) (w .1)
       ∙ slide at (w .0) (f a (drop (w .0) (drop at t)))

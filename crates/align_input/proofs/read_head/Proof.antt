@@ -19,7 +19,9 @@ enum-told : tie.Need-enum-told
 enum-told c = search needs
 
 returns : tie.Need-returns
-returns c = sym (head-bad1 (now (c .before .before .before .before .before .args .input)) (sym (c .enum-told .given .1) ∙ c .before .before .read-decimal-line .ensures))
+returns c =
+    sym
+    (head-bad1 (now (c .before .before .before .before .before .args .input)) (sym (c .enum-told .given .1) ∙ c .before .before .read-decimal-line .ensures))
 
 slice-aggregate-read-decimal-line-2 : tie.Need-slice-aggregate-read-decimal-line-2
 slice-aggregate-read-decimal-line-2 c = search needs
@@ -36,7 +38,8 @@ enum-told-2 c = search needs
 returns-2 : tie.Need-returns-2
 returns-2 c =
     let b1 = c .before .before .before .before in
-    sym (head-bad2 (now (b1 .before .before .before .before .before .before .args .input)) _ _ (sym (b1 .before .files .given .1) ∙ b1 .before .before .before .read-decimal-line .ensures) (sym (c .enum-told2 .given .1) ∙ c .before .before .read-decimal-line2 .ensures))
+    sym
+    (head-bad2 (now (b1 .before .before .before .before .before .before .args .input)) _ _ (sym (b1 .before .files .given .1) ∙ b1 .before .before .before .read-decimal-line .ensures) (sym (c .enum-told2 .given .1) ∙ c .before .before .read-decimal-line2 .ensures))
 
 returns-3 : tie.Need-returns-3
 returns-3 c =

@@ -20,8 +20,11 @@ use Rattle.align_input.proofs.read_input.Tie as tie
 
 -- where the two are the same input, the rows stored are its rows
 module _ (c : Columns) (f p : ℕ) where
-  same-rows : (rows : List TextRow) (d : Input) → some (record { files = f; peptides = p; rows = rows }) ≡ some d → stored c 0 rows ≡ stored c 0 (d .rows)
-  same-rows rows d h = let e : record { files = f; peptides = p; rows = rows } ≡ d = cc in ap (λ (x : Input). stored c 0 (x .rows)) e
+  same-rows : (rows : List TextRow) (d : Input) → some (record { files = f; peptides = p; rows = rows }) ≡ some d
+      → stored c 0 rows ≡ stored c 0 (d .rows)
+  same-rows rows d h =
+      let e : record { files = f; peptides = p; rows = rows } ≡ d = cc in
+      ap (λ (x : Input). stored c 0 (x .rows)) e
 
 returns : tie.Need-returns
 returns c =
@@ -41,7 +44,9 @@ enum-told c = search needs
 returns-2 : tie.Need-returns-2
 returns-2 c =
     let t = now (c .before .before .before .before .before .before .before .before .before .args .input) in
-    let e = parse-bad t (c .before .before .before .if1 .left) (sym (c .enum-told .given .1) ∙ c .before .before .read-head .ensures) in
+    let e =
+    parse-bad t (c .before .before .before .if1 .left)
+    (sym (c .enum-told .given .1) ∙ c .before .before .read-head .ensures) in
     (ap inputRead (sym e), λ d h. some-none (parse t) d h e)
 
 read-rows-requires : tie.Need-read-rows-requires
@@ -104,7 +109,9 @@ returns-4 c =
     let told = sym (k .before .files .given .1) ∙ hd .read-head .ensures in
     let f = k .before .files .given .0 .0 in
     let p = k .before .files .given .0 .1 .0 in
-    let w = rows-counted (now (a .input)) l _ _ _ told (c .before .rows .given .0 .0) (sym (c .before .rows .given .1) ∙ rr .read-rows .ensures .0) in
+    let w =
+    rows-counted (now (a .input)) l _ _ _ told (c .before .rows .given .0 .0)
+    (sym (c .before .rows .given .1) ∙ rr .read-rows .ensures .0) in
     let e = parse-some (now (a .input)) l _ _ _ told (w .0) (w .1) in (
       ap (IR.Read f p) (w .2) ∙ ap inputRead (sym e),
       λ d h. rr .read-rows .ensures .1 (w .0) (w .1) ∙ same-rows (columns (now (a .file)) (now (a .peptide)) (now (a .label)) (now (a .q)) (now (a .rt))) f p (w .0) d (sym e ∙ h),

@@ -132,13 +132,25 @@ unfolding lineOf
 cast-t33 c =
     let b4 = c .before .before .before .before .before in
     let b3 = b4 .before .before .before .before .before in
-    record { fits = pattern-lt (now (b4 .before .before .before .before .before .before .before .before .before .before .before .before .before .before .before .before .before .before .before .before .before .args .input)) qKey (b3 .before .label .given .0 .1 .0) _ _ refl (sym (b4 .before .q .given .1) ∙ b4 .before .before .before .read-hex-line .ensures) }
+    record {
+      fits =
+          pattern-lt
+          (now (b4 .before .before .before .before .before .before .before .before .before .before .before .before .before .before .before .before .before .before .before .before .before .args .input)) qKey
+          (b3 .before .label .given .0 .1 .0) _ _ refl
+          (sym (b4 .before .q .given .1) ∙ b4 .before .before .before .read-hex-line .ensures);
+    }
 
 cast-t34 : tie.Need-cast-t34
 unfolding lineOf
 cast-t34 c =
     let b4 = c .before .before .before .before .before in
-    record { fits = pattern-lt (now (c .before .before .before .before .before .before .before .before .before .before .before .before .before .before .before .before .before .before .before .before .before .before .before .before .before .before .args .input)) rtKey (b4 .before .q .given .0 .1 .0) _ _ refl (sym (c .before .rt .given .1) ∙ c .before .before .before .read-hex-line2 .ensures) }
+    record {
+      fits =
+          pattern-lt
+          (now (c .before .before .before .before .before .before .before .before .before .before .before .before .before .before .before .before .before .before .before .before .before .before .before .before .before .before .args .input)) rtKey
+          (b4 .before .q .given .0 .1 .0) _ _ refl
+          (sym (c .before .rt .given .1) ∙ c .before .before .before .read-hex-line2 .ensures);
+    }
 
 returns-6 : tie.Need-returns-6
 returns-6 c =
@@ -147,7 +159,8 @@ returns-6 c =
     let b2 = b3 .before .before .before .before .before in
     let b1 = b2 .before .before .before .before .before in
     let a = b1 .before .before .before .before .before .before .args in
-    ap (λ (z : ℤ). Row (record { file = b1 .before .file .given .0 .0; peptide = b2 .before .peptide .given .0 .0; label = z; q = b4 .before .q .given .0 .0; rt = c .before .rt .given .0 .0 }) (c .before .rt .given .0 .1 .0))
+    ap
+    (λ (z : ℤ). Row (record { file = b1 .before .file .given .0 .0; peptide = b2 .before .peptide .given .0 .0; label = z; q = b4 .before .q .given .0 .0; rt = c .before .rt .given .0 .0 }) (c .before .rt .given .0 .1 .0))
     (toZ-ofZ (record { sfits = omega (arith, b3 .known-told3 .given) }))
     ∙ sym
     (row-whole (now (a .input)) (a .at) _ _

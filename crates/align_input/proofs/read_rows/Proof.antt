@@ -30,10 +30,12 @@ Inv-loop input at file₀ peptide₀ label₀ q₀ rt₀ next₀ i₀ file pepti
     (i ≤ next)
     × Same (columns file₀ peptide₀ label₀ q₀ rt₀) (columns file peptide label q rt)
     × (countFrom i (rowsOf (drop next input)) ≡ countFrom 0 (rowsOf (drop at input)))
-    × (storing (columns file peptide label q rt) i (rowsOf (drop next input)) ≡ storing (columns file₀ peptide₀ label₀ q₀ rt₀) 0 (rowsOf (drop at input)))
+    ×
+    (storing (columns file peptide label q rt) i (rowsOf (drop next input)) ≡ storing (columns file₀ peptide₀ label₀ q₀ rt₀) 0 (rowsOf (drop at input)))
 
 abbrev μ-loop : tie.MeasureT-loop
-μ-loop input at file₀ peptide₀ label₀ q₀ rt₀ next₀ i₀ file peptide label q rt next i = length input - next
+μ-loop input at file₀ peptide₀ label₀ q₀ rt₀ next₀ i₀ file peptide label q rt next i =
+    length input - next
 
 loop-holds : tie.Need-loop-holds Inv-loop μ-loop
 loop-holds c = (search needs, record { file = refl; peptide = refl; label = refl; q = refl; rt = refl }, refl, refl)
@@ -106,7 +108,8 @@ module _ (c : tie.After-slice-known8 Inv-loop μ-loop) where
   abbrev end : ℕ
   end = k .before .row .given .0 .1 .0
 
-  told : Row row end ≡ rowAt (turn .before .loop .next) (rowRead (drop (turn .before .loop .next) (now (b .args .input))))
+  told : Row row end
+      ≡ rowAt (turn .before .loop .next) (rowRead (drop (turn .before .loop .next) (now (b .args .input))))
   told = sym (k .before .row .given .1) ∙ k .before .before .before .read-row .ensures
 
   further : turn .before .loop .next < end
@@ -130,8 +133,10 @@ loop-again c =
         rt = s c .store-row .kept .1 .1 .1 .1 .1 .1 .0 ∙ t .inv .1 .rt;
       },
       sym (turn-count (now (b c .args .input)) (t .next) (turn c .loop-test .taken) (row c) (end c) (told c) (t .i)) ∙ t .inv .2,
-      ap (λ (x : Columns). storing x (t .i + 1) (rowsOf (drop (end c) (now (b c .args .input))))) (s c .store-row .ensures)
-          ∙ sym (turn-columns (now (b c .args .input)) (t .next) (turn c .loop-test .taken) (row c) (end c) (told c) (columns (t .file) (t .peptide) (t .label) (t .q) (t .rt)) (t .i))
+      ap (λ (x : Columns). storing x (t .i + 1) (rowsOf (drop (end c) (now (b c .args .input)))))
+          (s c .store-row .ensures)
+          ∙ sym
+          (turn-columns (now (b c .args .input)) (t .next) (turn c .loop-test .taken) (row c) (end c) (told c) (columns (t .file) (t .peptide) (t .label) (t .q) (t .rt)) (t .i))
           ∙ t .inv .3,
     )
 

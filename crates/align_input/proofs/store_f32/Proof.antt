@@ -20,7 +20,9 @@ same-length : tie.Need-same-length
 same-length c = search needs
 
 returns : tie.Need-returns
-returns c = ap (set (now (c .before .before .before .args .column)) (c .before .before .before .args .i)) (c .before .from-bits32 .ensures)
+returns c =
+    ap (set (now (c .before .before .before .args .column)) (c .before .before .before .args .i))
+    (c .before .from-bits32 .ensures)
 
 returns-2 : tie.Need-returns-2
 returns-2 c = sym (set-out _ _ _ (c .if1 .left))

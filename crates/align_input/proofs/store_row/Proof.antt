@@ -47,7 +47,9 @@ returns c =
     let p = l .before .before .before .before .before in
     let f = p .before .before .before .before in
     let a = f .before .before .before .before .before .before .args in
-    columns-eq (f .store-u32 .ensures) (p .store-u322 .ensures) (l .store-i32 .ensures ∙ ap (set (now (a .label)) (a .i)) (toZ-ofZ (record { sfits = omega (arith, l .before .struct-told .given) }))) (d .store-f32 .ensures) (e .store-f322 .ensures)
+    columns-eq (f .store-u32 .ensures) (p .store-u322 .ensures)
+    (l .store-i32 .ensures ∙ ap (set (now (a .label)) (a .i)) (toZ-ofZ (record { sfits = omega (arith, l .before .struct-told .given) })))
+    (d .store-f32 .ensures) (e .store-f322 .ensures)
 
 pub store-row-spec : {M : Type 1} → statement M
 store-row-spec =

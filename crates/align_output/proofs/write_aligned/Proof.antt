@@ -67,7 +67,8 @@ returns c =
     let l = c .before in
     let s = l .before .before .before in
     let ts = now (s .args .aligned) in
-    writing-done _ _ _ _ _ (subst (λ (x : List ℕ). Writing (now (s .args .out)) (s .args .at) (alignedText ts) (l .loop .out) (l .loop .next) x) (aligned-end ts (l .loop .i) (c .loop-test .left)) (l .loop .inv .2))
+    writing-done _ _ _ _ _
+    (subst (λ (x : List ℕ). Writing (now (s .args .out)) (s .args .at) (alignedText ts) (l .loop .out) (l .loop .next) x) (aligned-end ts (l .loop .i) (c .loop-test .left)) (l .loop .inv .2))
 
 pub write-aligned-spec : {M : Type 1} → statement M
 write-aligned-spec =

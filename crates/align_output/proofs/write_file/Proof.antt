@@ -21,7 +21,8 @@ write-float-requires : tie.Need-write-float-requires
 write-float-requires c κs =
     let w = c .before .before .before .before in
     let a = w .before .before .before .before .args in
-    omega (arith, w .write-decimal-line .ensures .next, w .write-decimal-line .kept .0, decimal-line-length fileKey (a .i) (omega arith))
+    omega
+    (arith, w .write-decimal-line .ensures .next, w .write-decimal-line .kept .0, decimal-line-length fileKey (a .i) (omega arith))
 
 slice-aggregate-write-float-2 : tie.Need-slice-aggregate-write-float-2
 slice-aggregate-write-float-2 c = search needs

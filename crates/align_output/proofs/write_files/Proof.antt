@@ -90,7 +90,8 @@ loop-again c =
     let i = l .loop .i in
     let records = recordsOf (columns s) in
     let a = recordAt (columns s) i in
-    let at-file = records-at (columns s) (length (now (s .args .max-rt))) (s .pre .2) i noRecord (t .loop-test .taken) in
+    let at-file =
+    records-at (columns s) (length (now (s .args .max-rt))) (s .pre .2) i noRecord (t .loop-test .taken) in
     let next : filesText i (drop i records) ≡ fileText i a ++ filesText (i + 1) (drop (i + 1) records) =
     files-next records noRecord i (omega (arith, records-long s))
     ∙ ap (λ (r : Alignment). fileText i r ++ filesText (i + 1) (drop (i + 1) records)) at-file in (

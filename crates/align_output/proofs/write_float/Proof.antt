@@ -28,7 +28,9 @@ returns c =
     let w = c .before .before in
     let b = w .before in
     let a = b .before .before .before .before .args in
-    subst (λ (v : ℕ). Wrote (now (a .out)) (a .at) (line (now (a .key)) (hexOf 8 v)) (w .write-hex-line .result) (w .write-hex-line .last .0)) (b .bits32 .ensures) (w .write-hex-line .ensures)
+    subst
+    (λ (v : ℕ). Wrote (now (a .out)) (a .at) (line (now (a .key)) (hexOf 8 v)) (w .write-hex-line .result) (w .write-hex-line .last .0))
+    (b .bits32 .ensures) (w .write-hex-line .ensures)
 
 pub write-float-spec : {M : Type 1} → statement M
 write-float-spec =

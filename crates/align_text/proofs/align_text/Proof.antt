@@ -37,11 +37,17 @@ buffered a = omega (arith, a .answer-text .ensures .wrote .next, text-short (inp
 the-text : (a : tie.After-answer-text) → take (long a) (a .answer-text .last .1 .0) ≡ alignText (input a)
 the-text a =
     let n : length (alignText (input a)) ≡ long a = omega (arith, a .answer-text .ensures .wrote .next) in
-    first-cells (long a) _ (a .answer-text .last .1 .0) (alignText (input a)) (a .answer-text .ensures .wrote .out) n (buffered a)
+    first-cells (long a) _ (a .answer-text .last .1 .0) (alignText (input a))
+    (a .answer-text .ensures .wrote .out) n (buffered a)
 
 -- the output once the text is copied
-copied : (w : tie.After-write-bytes) → w .write-bytes .last .0 ≡ sets (output (w .before .before .before .before .before)) 0 (alignText (input (w .before .before .before .before .before)))
-copied w = let a = w .before .before .before .before .before in w .write-bytes .ensures .out ∙ ap (sets (output a) 0) (the-text a)
+copied : (w : tie.After-write-bytes)
+    → w .write-bytes .last .0
+    ≡ sets (output (w .before .before .before .before .before)) 0
+    (alignText (input (w .before .before .before .before .before)))
+copied w =
+    let a = w .before .before .before .before .before in
+    w .write-bytes .ensures .out ∙ ap (sets (output a) 0) (the-text a)
 
 slice-aggregate-answer-text : tie.Need-slice-aggregate-answer-text
 slice-aggregate-answer-text c = search needs
@@ -53,7 +59,8 @@ returns : tie.Need-returns
 returns c =
     let a = c .before .before .before in
     let e = a .answer-text .ensures in
-    too-short (input a) (output a) (status a) (long a) (e .number) (e .wrote .next) (c .before .if1 .taken) (c .if2 .taken)
+    too-short (input a) (output a) (status a) (long a) (e .number) (e .wrote .next) (c .before .if1 .taken)
+    (c .if2 .taken)
 
 returns-2 : tie.Need-returns-2
 returns-2 c =
@@ -81,7 +88,8 @@ returns-3 c =
     let f = w .before .before .before in
     let a = f .before .before in
     let e = a .answer-text .ensures in
-    written-accepted (input a) (output a) (status a) (long a) (e .number) (e .wrote .next) (f .if1 .left) (w .write-bytes .last .0) (copied w) (c .if3 .taken)
+    written-accepted (input a) (output a) (status a) (long a) (e .number) (e .wrote .next) (f .if1 .left)
+    (w .write-bytes .last .0) (copied w) (c .if3 .taken)
 
 same-length-2 : tie.Need-same-length-2
 same-length-2 c = search needs
@@ -92,7 +100,8 @@ returns-4 c =
     let f = w .before .before .before in
     let a = f .before .before in
     let e = a .answer-text .ensures in
-    written-refused (input a) (output a) (status a) (long a) (e .number) (e .wrote .next) (f .if1 .left) (w .write-bytes .last .0) (copied w) (c .if3 .left)
+    written-refused (input a) (output a) (status a) (long a) (e .number) (e .wrote .next) (f .if1 .left)
+    (w .write-bytes .last .0) (copied w) (c .if3 .left)
 
 pub align-text-spec : {M : Type 1} → statement M
 align-text-spec =

@@ -42,10 +42,12 @@ kept g =
     record { max-rt = k .0; slope = k .1 .0; intercept = k .1 .1 .0; aligned = k .1 .1 .1 .0 }
 
 -- the parts that are written of
-files-in : (g : tie.After-global-alignment) (l : List Float) → length l ≡ 8 → length (take (start g .args .files) l) ≡ start g .args .files
+files-in : (g : tie.After-global-alignment) (l : List Float) → length l ≡ 8
+    → length (take (start g .args .files) l) ≡ start g .args .files
 files-in g l e = length-take-le _ l (omega (arith, ready g .files))
 
-rows-in : (g : tie.After-global-alignment) (l : List Float) → length l ≡ 256 → length (take (length (now (start g .args .file))) l) ≡ length (now (start g .args .file))
+rows-in : (g : tie.After-global-alignment) (l : List Float) → length l ≡ 256
+    → length (take (length (now (start g .args .file))) l) ≡ length (now (start g .args .file))
 rows-in g l e = length-take-le _ l (omega (arith, ready g .rows))
 
 slice-aggregate-global-alignment : tie.Need-slice-aggregate-global-alignment
@@ -88,10 +90,14 @@ array-share-prefix-intercept : tie.Need-array-share-prefix-intercept
 array-share-prefix-intercept c = let g = aligned (c .before .before) in omega (arith, kept g .intercept, ready g .files)
 
 slice-aggregate-write-accepted-3 : tie.Need-slice-aggregate-write-accepted-3
-slice-aggregate-write-accepted-3 c = let g = aligned (c .before .before .before) in sym (files-in g _ (kept g .intercept))
+slice-aggregate-write-accepted-3 c =
+    let g = aligned (c .before .before .before) in
+    sym (files-in g _ (kept g .intercept))
 
 array-share-prefix-aligned : tie.Need-array-share-prefix-aligned
-array-share-prefix-aligned c = let g = aligned (c .before .before .before) in omega (arith, kept g .aligned, ready g .rows)
+array-share-prefix-aligned c =
+    let g = aligned (c .before .before .before) in
+    omega (arith, kept g .aligned, ready g .rows)
 
 slice-aggregate-write-accepted-4 : tie.Need-slice-aggregate-write-accepted-4
 slice-aggregate-write-accepted-4 c =

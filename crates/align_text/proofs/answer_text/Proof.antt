@@ -41,7 +41,9 @@ abbrev rows : tie.After-files → ℕ
 rows f = f .files .given .0 .1 .1 .0
 
 given : (f : tie.After-files) → Given (now (start (read f) .args .input)) (files f) (peptides f) (rows f)
-given f = given-by (now (start (read f) .args .input)) (files f) (peptides f) (rows f) (sym (f .files .given .1) ∙ read f .read-input .ensures .0)
+given f =
+    given-by (now (start (read f) .args .input)) (files f) (peptides f) (rows f)
+    (sym (f .files .given .1) ∙ read f .read-input .ensures .0)
 
 -- the columns as they were read
 abbrev files₀ : tie.After-read-input → List ℕ
@@ -60,10 +62,14 @@ abbrev rts₀ : tie.After-read-input → List Float
 rts₀ r = r .read-input .last .1 .1 .1 .1 .1 .0
 
 -- within the limits
-passed : (e : tie.Else1) → withinLimits (files (e .before .before .before)) (peptides (e .before .before .before)) (rows (e .before .before .before)) ≡ true
+passed : (e : tie.Else1)
+    → withinLimits (files (e .before .before .before)) (peptides (e .before .before .before))
+    (rows (e .before .before .before)) ≡ true
 passed e = sym (e .before .limits .ensures) ∙ not-false _ (e .if1 .left)
 
-limited : (e : tie.Else1) → Within (files (e .before .before .before)) (peptides (e .before .before .before)) (rows (e .before .before .before))
+limited : (e : tie.Else1)
+    → Within (files (e .before .before .before)) (peptides (e .before .before .before))
+    (rows (e .before .before .before))
 limited e = within _ _ _ (passed e)
 
 -- there is a cell for each row
@@ -79,7 +85,13 @@ cells e =
     let r = read (e .before .before .before) in
     let k = r .read-input .kept in
     let h = limited e .rows in
-    record { file = omega (arith, h, k .1 .0); peptide = omega (arith, h, k .1 .1 .0); label = omega (arith, h, k .1 .1 .1 .0); q = omega (arith, h, k .1 .1 .1 .1 .0); rt = omega (arith, h, k .1 .1 .1 .1 .1 .0) }
+    record {
+      file = omega (arith, h, k .1 .0);
+      peptide = omega (arith, h, k .1 .1 .0);
+      label = omega (arith, h, k .1 .1 .1 .0);
+      q = omega (arith, h, k .1 .1 .1 .1 .0);
+      rt = omega (arith, h, k .1 .1 .1 .1 .1 .0);
+    }
 
 slice-aggregate-read-input : tie.Need-slice-aggregate-read-input
 slice-aggregate-read-input c = search needs
@@ -133,7 +145,9 @@ returns-2 c =
     let w = c .before .before in
     let l = w .before .before .before in
     let f = l .before .before in
-    let h = limited-is (now (start (read f) .args .input)) _ _ _ (given f) (sym (l .limits .ensures) ∙ not-true _ (w .before .before .if1 .taken)) in
+    let h =
+    limited-is (now (start (read f) .args .input)) _ _ _ (given f)
+    (sym (l .limits .ensures) ∙ not-true _ (w .before .before .if1 .taken)) in
     restated (h .0) (h .1) (w .refuse2 .ensures)
 
 array-share-prefix-file : tie.Need-array-share-prefix-file
@@ -203,7 +217,9 @@ returns-3 c =
     let r = read f in
     let t = now (start r .args .input) in
     let d = cells e in
-    let h = aligned-is t _ _ _ (given f) (passed e) _ _ _ _ _ _ (r .read-input .ensures .1 (given f .input) (given f .parsed)) (d .file) (d .peptide) (d .label) (d .q) (d .rt) in
+    let h =
+    aligned-is t _ _ _ (given f) (passed e) _ _ _ _ _ _
+    (r .read-input .ensures .1 (given f .input) (given f .parsed)) (d .file) (d .peptide) (d .label) (d .q) (d .rt) in
     restated (h .0) (h .1) (w .answer-rows .ensures)
 
 pub answer-text-spec : {M : Type 1} → statement M

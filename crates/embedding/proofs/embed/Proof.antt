@@ -14,7 +14,8 @@ use Rattle.embedding.proofs.embed.Tie as tie
 
 -- what a model's own function wrote is the design row of that model
 designed : (m k : Model) → m ≡ k → (letters : List ℕ) (log mass : Float) (charge : ℕ) (old back : List Float)
-    → back ≡ design k letters log mass charge ++ drop (orderOf k) old → back ≡ design m letters log mass charge ++ drop (orderOf m) old
+    → back ≡ design k letters log mass charge ++ drop (orderOf k) old
+    → back ≡ design m letters log mass charge ++ drop (orderOf m) old
 designed m k e letters log mass charge old back h = rw e h
 
 enum-told : tie.Need-enum-told
@@ -40,7 +41,8 @@ returns : tie.Need-returns
 unfolding design
 returns c =
     let a = c .before .before .before .before .before .before .before .before .args in
-    designed (a .model) Retention (c .before .before .before .before .enum-told .given .1) (now (a .letters)) (a .log) (a .mass) (a .charge) (now (a .row)) _ (c .before .before .embed .ensures)
+    designed (a .model) Retention (c .before .before .before .before .enum-told .given .1) (now (a .letters))
+    (a .log) (a .mass) (a .charge) (now (a .row)) _ (c .before .before .embed .ensures)
 
 same-length-2 : tie.Need-same-length-2
 same-length-2 c = search needs
@@ -49,7 +51,8 @@ returns-2 : tie.Need-returns-2
 unfolding design
 returns-2 c =
     let a = c .before .before .before .before .before .before .before .before .args in
-    designed (a .model) Mobility (c .before .before .before .before .enum-told2 .given .1) (now (a .letters)) (a .log) (a .mass) (a .charge) (now (a .row)) _ (c .before .before .embed2 .ensures)
+    designed (a .model) Mobility (c .before .before .before .before .enum-told2 .given .1) (now (a .letters))
+    (a .log) (a .mass) (a .charge) (now (a .row)) _ (c .before .before .embed2 .ensures)
 
 pub embed-spec : {M : Type 1} → statement M
 embed-spec =

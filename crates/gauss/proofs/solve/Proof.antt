@@ -37,14 +37,18 @@ within : (c : tie.Else1) → Passed (system (start (c .before))) (held (start (c
 within c = passed _ _ (accepts c)
 
 -- the products of the two numbers
-small : (c : tie.Else1) → let a = start (c .before) .args in (a .n * a .n ≤ maxOrder * maxOrder) × (a .n * a .c ≤ maxOrder * maxColumns)
+small : (c : tie.Else1)
+    → let a = start (c .before) .args in
+    (a .n * a .n ≤ maxOrder * maxOrder) × (a .n * a .c ≤ maxOrder * maxColumns)
 small c = let p = within c in (mul-le-mul (p .order) (p .order), mul-le-mul (p .order) (p .columns))
 
 check-requires : tie.Need-check-requires
 check-requires c κs = search needs
 
 returns : tie.Need-returns
-returns c = let s = start (c .before) in refused (system s) (held s) (c .before .check .result) (c .before .check .ensures) (c .if1 .taken)
+returns c =
+    let s = start (c .before) in
+    refused (system s) (held s) (c .before .check .result) (c .before .check .ensures) (c .if1 .taken)
 
 mul-outputs : tie.Need-mul-outputs
 mul-outputs c = omega (arith, small c .1)
@@ -84,7 +88,8 @@ returns-2 c =
     let s = start (e .before) in
     let l = f .last .1 .1 .1 .1 in
     let k = f .kept .1 .1 .1 .1 in
-    answered (system s) (held s) (accepts e) (record { workspace = l .0; solution = l .1 .0 }) (f .result) (f .ensures) (k .0) (k .1 .0)
+    answered (system s) (held s) (accepts e) (record { workspace = l .0; solution = l .1 .0 }) (f .result)
+    (f .ensures) (k .0) (k .1 .0)
 
 pub solve-spec : {M : Type 1} → statement M
 solve-spec =

@@ -17,7 +17,8 @@ use Rattle.mass.proofs.column.Tie as tie
 
 -- the table of the code
 columns : List ℕ
-columns = 0 ∷ 0 ∷ 1 ∷ 2 ∷ 3 ∷ 4 ∷ 5 ∷ 6 ∷ 7 ∷ 0 ∷ 8 ∷ 9 ∷ 10 ∷ 11 ∷ 21 ∷ 12 ∷ 13 ∷ 14 ∷ 15 ∷ 16 ∷ 20 ∷ 17 ∷ 18 ∷ 0 ∷ 19 ∷ 0 ∷ []
+columns =
+    0 ∷ 0 ∷ 1 ∷ 2 ∷ 3 ∷ 4 ∷ 5 ∷ 6 ∷ 7 ∷ 0 ∷ 8 ∷ 9 ∷ 10 ∷ 11 ∷ 21 ∷ 12 ∷ 13 ∷ 14 ∷ 15 ∷ 16 ∷ 20 ∷ 17 ∷ 18 ∷ 0 ∷ 19 ∷ 0 ∷ []
 
 -- the entry at k is the column of the k-th letter after A
 right : ℕ → ℕ → Bool
@@ -26,7 +27,8 @@ right k x = eqb x (columnOf (65 + k))
 entry : (b : ℕ) → 65 ≤ b → b ≤ 90 → getD columns (b - 65) 0 ≡ columnOf b
 unfolding columns right columnOf placeFrom validAa
 entry b l h =
-    eqb→eq (getD columns (b - 65) 0) (columnOf (65 + (b - 65))) (at right columns tt (b - 65) (omega arith)) ∙ ap columnOf {x = 65 + (b - 65)} {y = b} (omega arith)
+    eqb→eq (getD columns (b - 65) 0) (columnOf (65 + (b - 65))) (at right columns tt (b - 65) (omega arith))
+    ∙ ap columnOf {x = 65 + (b - 65)} {y = b} (omega arith)
 
 returns : tie.Need-returns
 returns c = sym (column-outside (c .before .args .letter) (inl (c .if1 .taken)))
@@ -45,7 +47,9 @@ wide-requires c κs = search needs
 
 returns-3 : tie.Need-returns-3
 unfolding columns
-returns-3 c = c .wide .ensures ∙ entry (c .before .before .before .args .letter) (c .before .before .if1 .left) (c .before .if2 .left)
+returns-3 c =
+    c .wide .ensures
+    ∙ entry (c .before .before .before .args .letter) (c .before .before .if1 .left) (c .before .if2 .left)
 
 pub column-spec : {M : Type 1} → statement M
 column-spec = tie.close (tie.spec returns returns-2 cast-at array-read-wide wide-requires returns-3)

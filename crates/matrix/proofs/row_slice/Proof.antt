@@ -29,4 +29,5 @@ returns : tie.Need-returns
 returns c = rw add-sub-cancel-left
 
 pub row-slice-spec : {M : Type 1} → statement M
-row-slice-spec = tie.close (tie.spec mul-start cast-start add-end mul-result sub-result part-result-start part-result-end returns)
+row-slice-spec =
+    tie.close (tie.spec mul-start cast-start add-end mul-result sub-result part-result-start part-result-end returns)

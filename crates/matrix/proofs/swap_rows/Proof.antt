@@ -89,7 +89,8 @@ loop-again c =
       l .loop .inv .1,
       l .loop .inv .2,
       simp length-set (l .loop .inv .3),
-      rw add-one (swap-suc (p .cols) (p .rows) (l .loop .k) (p .i) (p .j) (l .loop .cells) (rowsOf (p .cols) (p .rows) (p .cells .now)) nan (l .loop .inv .4) wide (length-rowsOf (p .cols) (p .rows) (p .cells .now)) (q .2) (q .3) (c .before .before .loop-test .taken)),
+      rw add-one
+          (swap-suc (p .cols) (p .rows) (l .loop .k) (p .i) (p .j) (l .loop .cells) (rowsOf (p .cols) (p .rows) (p .cells .now)) nan (l .loop .inv .4) wide (length-rowsOf (p .cols) (p .rows) (p .cells .now)) (q .2) (q .3) (c .before .before .loop-test .taken)),
     )
 
 same-length : tie.Need-same-length Inv-loop μ-loop

@@ -22,8 +22,12 @@ abbrev μ-loop : tie.MeasureT-loop
 μ-loop letters i₀ i = length letters - i
 
 -- what is left from i on, where the test at i has this value
-left : (letters : List ℕ) (i : ℕ) (b : Bool) → i < length letters → isLetter (getD letters i 0) ≡ b → lettersRight (drop i letters) ≡ b && lettersRight (drop (i + 1) letters)
-left letters i b h e = every-step isLetter i letters 0 h ∙ ap (λ (k : ℕ). isLetter (getD letters i 0) && lettersRight (drop k letters)) (sym (add-one i)) ∙ ap (λ (t : Bool). t && lettersRight (drop (i + 1) letters)) e
+left : (letters : List ℕ) (i : ℕ) (b : Bool) → i < length letters → isLetter (getD letters i 0) ≡ b
+    → lettersRight (drop i letters) ≡ b && lettersRight (drop (i + 1) letters)
+left letters i b h e =
+    every-step isLetter i letters 0 h
+    ∙ ap (λ (k : ℕ). isLetter (getD letters i 0) && lettersRight (drop k letters)) (sym (add-one i))
+    ∙ ap (λ (t : Bool). t && lettersRight (drop (i + 1) letters)) e
 
 loop-holds : tie.Need-loop-holds Inv-loop μ-loop
 loop-holds c = (search needs, refl)
@@ -38,7 +42,8 @@ returns : tie.Need-returns Inv-loop μ-loop
 returns c =
     let l = c .before .before .before .before in
     let p = l .before .before .args in
-    sym (sym (l .loop .inv .1) ∙ left (p .letters .now) (l .loop .i) false (search needs) (sym (c .before .is-letter .ensures) ∙ not-true _ (c .if1 .taken)))
+    sym
+    (sym (l .loop .inv .1) ∙ left (p .letters .now) (l .loop .i) false (search needs) (sym (c .before .is-letter .ensures) ∙ not-true _ (c .if1 .taken)))
 
 add-i : tie.Need-add-i Inv-loop μ-loop
 add-i c = search needs
@@ -59,4 +64,6 @@ returns-2 c =
     rw (drop-of-length-le (l .before .before .args .letters .now) {i = l .loop .i} (omega arith)) at (l .loop .inv .1)
 
 pub check-letters-spec : {M : Type 1} → statement M
-check-letters-spec = tie.close (tie.spec Inv-loop μ-loop loop-holds shared-slice-read-letter is-letter-requires returns add-i loop-less loop-again returns-2)
+check-letters-spec =
+    tie.close
+    (tie.spec Inv-loop μ-loop loop-holds shared-slice-read-letter is-letter-requires returns add-i loop-less loop-again returns-2)

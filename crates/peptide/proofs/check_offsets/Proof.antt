@@ -29,7 +29,8 @@ returns-2 : tie.Need-returns-2 Inv-loop μ-loop
 returns-2 c =
     let s = c .before .before in
     let p = s .args in
-    sym (rw (ne-eqb _ _ (c .if2 .taken)) at (offsets-head (p .peptides) (p .letters) (p .offsets .now) (c .before .if1 .left)))
+    sym
+    (rw (ne-eqb _ _ (c .if2 .taken)) at (offsets-head (p .peptides) (p .letters) (p .offsets .now) (c .before .if1 .left)))
 
 shared-slice-read-start : tie.Need-shared-slice-read-start Inv-loop μ-loop
 shared-slice-read-start c = search needs
@@ -41,7 +42,8 @@ returns-3 : tie.Need-returns-3 Inv-loop μ-loop
 returns-3 c =
     let s = c .before .before .before .before in
     let p = s .args in
-    sym (rw (eq-eqb _ _ (c .before .before .if2 .left), ne-eqb _ _ (c .if3 .taken)) at (offsets-head (p .peptides) (p .letters) (p .offsets .now) (c .before .before .before .if1 .left)))
+    sym
+    (rw (eq-eqb _ _ (c .before .before .if2 .left), ne-eqb _ _ (c .if3 .taken)) at (offsets-head (p .peptides) (p .letters) (p .offsets .now) (c .before .before .before .if1 .left)))
 
 loop-holds : tie.Need-loop-holds Inv-loop μ-loop
 loop-holds c =
@@ -49,7 +51,8 @@ loop-holds c =
     let p = s .args in (
       c .before .before .before .if1 .left,
       omega (arith, c .if3 .left),
-      sym (rw (eq-eqb _ _ (c .before .before .if2 .left), eq-eqb _ _ (c .if3 .left)) at (offsets-head (p .peptides) (p .letters) (p .offsets .now) (c .before .before .before .if1 .left))),
+      sym
+          (rw (eq-eqb _ _ (c .before .before .if2 .left), eq-eqb _ _ (c .if3 .left)) at (offsets-head (p .peptides) (p .letters) (p .offsets .now) (c .before .before .before .if1 .left))),
     )
 
 mul-next : tie.Need-mul-next Inv-loop μ-loop
@@ -66,7 +69,8 @@ returns-4 c =
     let l = c .before .before .before in
     let p = l .before .before .before .before .before .args in
     let falls : getD (p .offsets .now) (l .loop .i) 0 < l .loop .start = omega (arith, c .if4 .taken) in
-    sym (sym (l .loop .inv .2) ∙ rw (lt-leb _ _ falls) at (climbs-step (l .loop .start) (p .letters) (l .loop .i) (p .offsets .now) (search needs)))
+    sym
+    (sym (l .loop .inv .2) ∙ rw (lt-leb _ _ falls) at (climbs-step (l .loop .start) (p .letters) (l .loop .i) (p .offsets .now) (search needs)))
 
 add-if5 : tie.Need-add-if5 Inv-loop μ-loop
 add-if5 c = search needs
@@ -77,7 +81,8 @@ returns-5 c =
     let p = l .before .before .before .before .before .args in
     let rises : l .loop .start ≤ getD (p .offsets .now) (l .loop .i) 0 = omega (arith, c .before .if4 .left) in
     let long : l .loop .start + maxLetters < getD (p .offsets .now) (l .loop .i) 0 = omega (arith, c .if5 .taken) in
-    sym (sym (l .loop .inv .2) ∙ rw (le-leb _ _ rises, lt-leb _ _ long) at (climbs-step (l .loop .start) (p .letters) (l .loop .i) (p .offsets .now) (search needs)))
+    sym
+    (sym (l .loop .inv .2) ∙ rw (le-leb _ _ rises, lt-leb _ _ long) at (climbs-step (l .loop .start) (p .letters) (l .loop .i) (p .offsets .now) (search needs)))
 
 add-i : tie.Need-add-i Inv-loop μ-loop
 add-i c = search needs

@@ -12,13 +12,19 @@ check-letters-requires : tie.Need-check-letters-requires
 check-letters-requires c κs = search needs
 
 returns : tie.Need-returns
-returns c = status-by _ _ _ _ _ _ (c .before .before .check-offsets .ensures) (c .before .check-letters .ensures) (search (fails, passes))
+returns c =
+    status-by _ _ _ _ _ _ (c .before .before .check-offsets .ensures) (c .before .check-letters .ensures)
+    (search (fails, passes))
 
 returns-2 : tie.Need-returns-2
-returns-2 c = let s = c .before .before in status-by _ _ _ _ _ _ (s .before .check-offsets .ensures) (s .check-letters .ensures) (search (fails, passes))
+returns-2 c =
+    let s = c .before .before in
+    status-by _ _ _ _ _ _ (s .before .check-offsets .ensures) (s .check-letters .ensures) (search (fails, passes))
 
 returns-3 : tie.Need-returns-3
-returns-3 c = let s = c .before .before in status-by _ _ _ _ _ _ (s .before .check-offsets .ensures) (s .check-letters .ensures) (search passes)
+returns-3 c =
+    let s = c .before .before in
+    status-by _ _ _ _ _ _ (s .before .check-offsets .ensures) (s .check-letters .ensures) (search passes)
 
 pub check-table-spec : {M : Type 1} → statement M
 check-table-spec = tie.close (tie.spec check-offsets-requires check-letters-requires returns returns-2 returns-3)

@@ -17,7 +17,8 @@ returns-2 c = search needs
 sequence-requires : tie.Need-sequence-requires
 sequence-requires c κs =
     let a = c .before .before .before .before .before .args in
-    has-peptide (a .letters .now) (a .offsets .now) (a .peptides) (a .p) (sym (c .before .before .check-table .ensures) ∙ c .before .if1 .left) (c .if2 .left)
+    has-peptide (a .letters .now) (a .offsets .now) (a .peptides) (a .p)
+    (sym (c .before .before .check-table .ensures) ∙ c .before .if1 .left) (c .if2 .left)
 
 returns-3 : tie.Need-returns-3
 returns-3 c = search needs

@@ -13,7 +13,8 @@ use Rattle.regression.proofs.add_scaled.Statement.{statement}
 use Rattle.regression.proofs.add_scaled.Tie as tie
 
 abbrev Inv-loop : tie.InvT-loop
-Inv-loop dst₀ src factor k₀ dst k = (k ≤ length dst₀) × (dst ≡ made (λ i x. plusScaled factor x (getD src i nan)) k dst₀) × (length dst ≡ length dst₀)
+Inv-loop dst₀ src factor k₀ dst k =
+    (k ≤ length dst₀) × (dst ≡ made (λ i x. plusScaled factor x (getD src i nan)) k dst₀) × (length dst ≡ length dst₀)
 
 abbrev μ-loop : tie.MeasureT-loop
 μ-loop dst₀ src factor k₀ dst k = length dst₀ - k

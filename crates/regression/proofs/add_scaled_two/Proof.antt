@@ -21,7 +21,8 @@ abbrev plus : List Float → Float → ℕ → Float → Float
 plus xs a i d = plusScaled a d (getD xs i nan)
 
 abbrev Inv-loop : tie.InvT-loop
-Inv-loop dst₀ x a y b k₀ dst k = (k ≤ length dst₀) × (dst ≡ made (λ i d. plus y b i (plus x a i d)) k dst₀) × (length dst ≡ length dst₀)
+Inv-loop dst₀ x a y b k₀ dst k =
+    (k ≤ length dst₀) × (dst ≡ made (λ i d. plus y b i (plus x a i d)) k dst₀) × (length dst ≡ length dst₀)
 
 abbrev μ-loop : tie.MeasureT-loop
 μ-loop dst₀ x a y b k₀ dst k = length dst₀ - k
@@ -74,7 +75,8 @@ returns c =
     let xs : List Float = now (a .x) in
     let ys : List Float = now (a .y) in
     let old : List Float = now (a .dst) in
-    let one : made (plus xs (a .a)) (l .k) old ≡ zipped (plusScaled (a .a)) old xs = made-zipped (plusScaled (a .a)) nan (l .k) old xs (search needs) (omega arith) in
+    let one : made (plus xs (a .a)) (l .k) old ≡ zipped (plusScaled (a .a)) old xs =
+    made-zipped (plusScaled (a .a)) nan (l .k) old xs (search needs) (omega arith) in
     let n : length (zipped (plusScaled (a .a)) old xs) ≡ length old = length-zipped (plusScaled (a .a)) old xs in
     l .inv .1
     ∙ made-twice (plus xs (a .a)) (plus ys (a .b)) (l .k) old

@@ -82,7 +82,9 @@ solve-inner-requires c κs =
     }
 
 same-length : tie.Need-same-length
-same-length c = simp (length-append, length-drop) (omega (arith, simp length-take at (c .before .before .solve-inner .kept .0)))
+same-length c =
+    let kept = c .before .before .solve-inner .kept .0 in
+    simp (length-append, length-drop) (omega (arith, simp length-take at kept))
 
 returns : tie.Need-returns
 returns c =

@@ -27,7 +27,8 @@ Inv-loop workspace₀ d beta₀ half eps₀ workspace beta eps =
     × (drop (systemLength d) workspace ≡ drop (systemLength d) workspace₀)
     × (beta ≡ beta₀)
     × Within eps
-    × (firstSolved d (equations d workspace₀) (ridgesFrom 16 eps) ≡ firstSolved d (equations d workspace₀) ridges)
+    ×
+    (firstSolved d (equations d workspace₀) (ridgesFrom 16 eps) ≡ firstSolved d (equations d workspace₀) ridges)
 
 abbrev μ-loop : tie.MeasureT-loop
 μ-loop workspace₀ d beta₀ half eps₀ workspace beta eps = length (ridgesFrom 16 eps)
@@ -44,13 +45,15 @@ module _ (d : ℕ) (ws₀ ws ws₁ beta₀ beta : List Float) (eps : Float) (hal
       → beta₁ ≡ rightSide d (rowsOf (d + 1) d (take half ws₁))
       → Found (solutionIn d ws₀) beta₀ beta₁ (Solves eps)
   found beta₁ h t copied =
-      let right : beta₁ ≡ rightSide d (eliminate d eps (equations d ws₀)) = copied ∙ rw (h, tried .system, rows) in
+      let right : beta₁ ≡ rightSide d (eliminate d eps (equations d ws₀)) =
+      copied ∙ rw (h, tried .system, rows) in
       let e : solutionIn d ws₀ ≡ solved eps (rightSide d (eliminate d eps (equations d ws₀))) =
       sym (inv .4) ∙ solves-here d (equations d ws₀) eps (inv .3) small (rw rows at (sym (tried .answer) ∙ t)) in
       record { answer = rw e; coefficients = rw e right }
 
   -- it did not
-  goes-on : length ws₁ ≡ length ws → r ≡ false → Inv-loop ws₀ d beta₀ half tiny64 ws₁ beta (mul binary64 eps ten64)
+  goes-on : length ws₁ ≡ length ws → r ≡ false
+      → Inv-loop ws₀ d beta₀ half tiny64 ws₁ beta (mul binary64 eps ten64)
   goes-on len t = (
     len ∙ inv .0,
     tried .rest ∙ inv .1,
@@ -143,8 +146,8 @@ loop-again c =
     let e = c .before .before .before in
     let a = s (at e) .args in
     let l = at e .loop in
-    goes-on (a .d) (now (a .workspace)) (l .workspace) (cells e) (now (a .beta)) (l .beta) (l .eps) (half (at e)) (l .inv)
-    (turn e .loop-test .taken) (e .attempt .result) (e .attempt .ensures) (e .attempt .kept .0) (c .if1 .left)
+    goes-on (a .d) (now (a .workspace)) (l .workspace) (cells e) (now (a .beta)) (l .beta) (l .eps) (half (at e))
+    (l .inv) (turn e .loop-test .taken) (e .attempt .result) (e .attempt .ensures) (e .attempt .kept .0) (c .if1 .left)
 
 same-length-3 : tie.Need-same-length-3 Inv-loop μ-loop
 same-length-3 c = search needs

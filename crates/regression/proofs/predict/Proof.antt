@@ -21,7 +21,8 @@ zipWith-nil f [] = refl
 zipWith-nil f (x ∷ xs) = refl
 
 abbrev Inv-loop : tie.InvT-loop
-Inv-loop row beta sum₀ k₀ sum k = (k ≤ length row) × (sumFrom sum (zipWith (mul binary64) (drop k row) (drop k beta)) ≡ dot row beta)
+Inv-loop row beta sum₀ k₀ sum k =
+    (k ≤ length row) × (sumFrom sum (zipWith (mul binary64) (drop k row) (drop k beta)) ≡ dot row beta)
 
 abbrev μ-loop : tie.MeasureT-loop
 μ-loop row beta sum₀ k₀ sum k = length row - k
@@ -41,8 +42,9 @@ returns : tie.Need-returns Inv-loop μ-loop
 returns c =
     let t = c .before in
     let l = t .before .before in
+    let beta : List Float = now (start l .args .beta) in
     c .canonical64 .ensures
-    ∙ rw (drop-of-length-le (now (start l .args .beta)) {i = l .loop .k} (t .if1 .taken), zipWith-nil) at (l .loop .inv .1)
+    ∙ rw (drop-of-length-le beta {i = l .loop .k} (t .if1 .taken), zipWith-nil) at (l .loop .inv .1)
 
 mul-sum : tie.Need-mul-sum Inv-loop μ-loop
 mul-sum c = search needs
@@ -69,7 +71,9 @@ loop-again c =
     let a = start l .args in
     let h : l .loop .k < length (now (a .row)) = omega arith in
     let h′ : l .loop .k < length (now (a .beta)) = omega arith in
-    (omega arith, rw add-one (rw (drop-cons (now (a .row)) (l .loop .k) nan h, drop-cons (now (a .beta)) (l .loop .k) nan h′) at (l .loop .inv .1)))
+    let row-left = drop-cons (now (a .row)) (l .loop .k) nan h in
+    let beta-left = drop-cons (now (a .beta)) (l .loop .k) nan h′ in
+    (omega arith, rw add-one (rw (row-left, beta-left) at (l .loop .inv .1)))
 
 canonical64-requires-2 : tie.Need-canonical64-requires-2 Inv-loop μ-loop
 canonical64-requires-2 c κs = search needs
@@ -78,7 +82,8 @@ returns-2 : tie.Need-returns-2 Inv-loop μ-loop
 unfolding zipWith
 returns-2 c =
     let l = c .before .before in
-    c .canonical642 .ensures ∙ rw (drop-of-length-le (now (start l .args .row)) {i = l .loop .k} (omega arith)) at (l .loop .inv .1)
+    c .canonical642 .ensures
+    ∙ rw (drop-of-length-le (now (start l .args .row)) {i = l .loop .k} (omega arith)) at (l .loop .inv .1)
 
 pub predict-spec : {M : Type 1} → statement M
 predict-spec =

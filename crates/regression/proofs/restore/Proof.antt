@@ -53,7 +53,8 @@ loop-again : tie.Need-loop-again Inv-loop μ-loop
 loop-again c =
     let l = c .before .before .loop in
     let half = c .before .before .before .args .half in
-    let read : getD (l .cells) (l .from) nan ≡ getD (drop half (now (c .before .before .before .args .cells))) (l .i) nan =
+    let cells = now (c .before .before .before .args .cells) in
+    let read : getD (l .cells) (l .from) nan ≡ getD (drop half cells) (l .i) nan =
     rw (l .inv .1, ← l .inv .3) (sym (getD-drop half (l .cells) (l .i) nan)) in (
       omega arith,
       omega arith,
@@ -70,7 +71,9 @@ returns c =
     let l = c .before .loop in
     let half = c .before .before .args .half in
     let s = drop half (now (c .before .before .args .cells)) in
-    let whole : take half (l .cells) ≡ s = l .inv .4 ∙ made-copy s nan _ _ (simp (length-take, length-drop) (omega arith)) (simp length-take (omega arith)) in
+    let whole : take half (l .cells) ≡ s =
+    l .inv .4
+    ∙ made-copy s nan _ _ (simp (length-take, length-drop) (omega arith)) (simp length-take (omega arith)) in
     sym (take-append-drop half (l .cells)) ∙ rw (whole, l .inv .3)
 
 pub restore-spec : {M : Type 1} → statement M

@@ -50,7 +50,9 @@ abbrev maxes : tie.After-max-rt-by-file → List ℕ
 maxes r = r .max-rt-by-file .last .1 .1 .0
 
 maxes-long : (r : tie.After-max-rt-by-file) → length (maxes r) ≡ start (r .before) .args .files
-maxes-long r = let s = start (r .before) in r .max-rt-by-file .kept .1 .1 .0 ∙ part (s .args .files) (s .pre .files-max)
+maxes-long r =
+    let s = start (r .before) in
+    r .max-rt-by-file .kept .1 .1 .0 ∙ part (s .args .files) (s .pre .files-max)
 
 abbrev borrowed : tie.After-max-rt-by-file → List ℕ
 borrowed r = let n = start (r .before) .args .files in take n (maxes r ++ drop n zeros)
@@ -61,13 +63,18 @@ borrowed-is r = let n = start (r .before) .args .files in take-at (maxes r) (dro
 borrowed-long : (r : tie.After-max-rt-by-file) → length (borrowed r) ≡ start (r .before) .args .files
 borrowed-long r = ap length (borrowed-is r) ∙ maxes-long r
 
-maxes-are : (r : tie.After-max-rt-by-file) → let s = start (r .before) in maxes r ≡ maxRts (s .args .files) (rows (input s))
+maxes-are : (r : tie.After-max-rt-by-file)
+    → let s = start (r .before) in
+    maxes r ≡ maxRts (s .args .files) (rows (input s))
 maxes-are r =
     let s = start (r .before) in
-    r .max-rt-by-file .ensures (now (s .args .peptide)) (s .pre .peptide) ∙ ap (λ (n : ℕ). maxRts n (rows (input s))) (part (s .args .files) (s .pre .files-max))
+    r .max-rt-by-file .ensures (now (s .args .peptide)) (s .pre .peptide)
+    ∙ ap (λ (n : ℕ). maxRts n (rows (input s))) (part (s .args .files) (s .pre .files-max))
 
 -- the matrix keeps its length
-cells-long : (d : tie.After-mean-rt-by-file) → let s = start (longest d .before) in length (d .mean-rt-by-file .last .1 .1 .1 .1 .1 .1 .1 .0) ≡ s .args .peptides * s .args .files
+cells-long : (d : tie.After-mean-rt-by-file)
+    → let s = start (longest d .before) in
+    length (d .mean-rt-by-file .last .1 .1 .1 .1 .1 .1 .1 .0) ≡ s .args .peptides * s .args .files
 cells-long d = d .mean-rt-by-file .kept .1 .1 .1 .1 .1 .1 .1 .0 ∙ start (longest d .before) .pre .workspace
 
 array-borrow-prefix-max : tie.Need-array-borrow-prefix-max
@@ -153,7 +160,8 @@ unfolding alignments maxRts
 returns c =
     let z = c .before .before in
     let w = c .before .before .before .before .before .before in
-    let g = c .before .before .before .before .before .before .before .before .before .before .before .before .before .before .before .before .before in
+    let g =
+    c .before .before .before .before .before .before .before .before .before .before .before .before .before .before .before .before .before in
     let d = smallest g in
     let r = longest d in
     let s = start (r .before) in
@@ -161,13 +169,17 @@ returns c =
     let cells = d .mean-rt-by-file .last .1 .1 .1 .1 .1 .1 .1 .0 in
     let ms = maxRts (i .files) (rows i) in
     let found = g .fit-lines .ensures
-    ∙ ap (λ (l : List ℕ). lines l (map (map decode) (rowsOf (length l) (i .peptides) cells))) (borrowed-is r ∙ maxes-are r)
-    ∙ ap (λ (n : ℕ). lines ms (map (map decode) (rowsOf n (i .peptides) cells))) (length-tabulate (i .files) (λ f. maxRt f (rows i)))
+    ∙ ap (λ (l : List ℕ). lines l (map (map decode) (rowsOf (length l) (i .peptides) cells)))
+    (borrowed-is r ∙ maxes-are r)
+    ∙ ap (λ (n : ℕ). lines ms (map (map decode) (rowsOf n (i .peptides) cells)))
+    (length-tabulate (i .files) (λ f. maxRt f (rows i)))
     ∙ ap (lines ms) (d .mean-rt-by-file .ensures) in
     record {
       workspace = z .zeros .ensures ∙ ap (λ (n : ℕ). replicate n zero64) (cells-long d);
       records = found;
-      aligned = w .align-rows .ensures (now (s .args .peptide)) (s .pre .peptide) ∙ ap (λ (l : List Alignment). map (aligned l) (rows i)) found;
+      aligned =
+          w .align-rows .ensures (now (s .args .peptide)) (s .pre .peptide)
+          ∙ ap (λ (l : List Alignment). map (aligned l) (rows i)) found;
     }
 
 pub align-spec : {M : Type 1} → statement M

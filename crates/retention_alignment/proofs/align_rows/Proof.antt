@@ -26,7 +26,8 @@ use Rattle.retention_alignment.proofs.align_rows.Tie as tie
 abbrev noRow : Obs
 noRow = record { file = 0; peptide = 0; rt = nan }
 
-row-time : (recs : List Alignment) (fs ps : List ℕ) (ts : List Float) (i : ℕ) → alignedBy (getD recs (getD fs i 0) noAlignment) (getD ts i nan) ≡ alignedRow recs (rowAt fs ps ts i)
+row-time : (recs : List Alignment) (fs ps : List ℕ) (ts : List Float) (i : ℕ)
+    → alignedBy (getD recs (getD fs i 0) noAlignment) (getD ts i nan) ≡ alignedRow recs (rowAt fs ps ts i)
 unfolding alignedRow
 row-time recs fs ps ts i = refl
 
@@ -47,12 +48,21 @@ abbrev start : tie.At-loop Inv-loop μ-loop → tie.Start Inv-loop μ-loop
 start at = at .before .before .before .before .before .before .before
 
 -- a row's file has a record
-file-below : (t : tie.In-loop Inv-loop μ-loop) → let s = start (t .before) in getD (now (s .args .file)) (t .before .loop .i) 0 < length (now (s .args .max-rt))
-file-below t = let s = start (t .before) in below-at (length (now (s .args .max-rt))) (now (s .args .file)) (t .before .loop .i) (s .pre .2) (t .loop-test .taken)
+file-below : (t : tie.In-loop Inv-loop μ-loop)
+    → let s = start (t .before) in
+    getD (now (s .args .file)) (t .before .loop .i) 0 < length (now (s .args .max-rt))
+file-below t =
+    let s = start (t .before) in
+    below-at (length (now (s .args .max-rt))) (now (s .args .file)) (t .before .loop .i) (s .pre .2)
+    (t .loop-test .taken)
 
 -- the place of a cell of its record
-scaled : (t : tie.In-loop Inv-loop μ-loop) → let s = start (t .before) in Fits w64 (getD (now (s .args .file)) (t .before .loop .i) 0 * 4)
-scaled t = let s = start (t .before) in scaled-fits _ (length (now (s .args .max-rt))) 4 (file-below t) (s .good .1 .1 .0 .1)
+scaled : (t : tie.In-loop Inv-loop μ-loop)
+    → let s = start (t .before) in
+    Fits w64 (getD (now (s .args .file)) (t .before .loop .i) 0 * 4)
+scaled t =
+    let s = start (t .before) in
+    scaled-fits _ (length (now (s .args .max-rt))) 4 (file-below t) (s .good .1 .1 .0 .1)
 
 loop-holds : tie.Need-loop-holds Inv-loop μ-loop
 unfolding upTo
@@ -77,13 +87,17 @@ mul-aligned-time-2 : tie.Need-mul-aligned-time-2 Inv-loop μ-loop
 mul-aligned-time-2 c = scaled (c .before .before .before)
 
 shared-slice-read-aligned-time-2 : tie.Need-shared-slice-read-aligned-time-2 Inv-loop μ-loop
-shared-slice-read-aligned-time-2 c = let t = c .before .before .before .before in omega (arith, file-below t, start (t .before) .pre .3 .slope)
+shared-slice-read-aligned-time-2 c =
+    let t = c .before .before .before .before in
+    omega (arith, file-below t, start (t .before) .pre .3 .slope)
 
 mul-aligned-time-3 : tie.Need-mul-aligned-time-3 Inv-loop μ-loop
 mul-aligned-time-3 c = scaled (c .before .before .before .before)
 
 shared-slice-read-aligned-time-3 : tie.Need-shared-slice-read-aligned-time-3 Inv-loop μ-loop
-shared-slice-read-aligned-time-3 c = let t = c .before .before .before .before .before in omega (arith, file-below t, start (t .before) .pre .3 .intercept)
+shared-slice-read-aligned-time-3 c =
+    let t = c .before .before .before .before .before in
+    omega (arith, file-below t, start (t .before) .pre .3 .intercept)
 
 mul-aligned-time-4 : tie.Need-mul-aligned-time-4 Inv-loop μ-loop
 mul-aligned-time-4 c = search needs
@@ -121,11 +135,13 @@ loop-again c =
       simp length-set (at .loop .inv .1),
       λ ps e.
           let os = observations (now (a .file)) ps (now (a .rt)) in
-          upTo-step over i (now (a .aligned)) (map (alignedRow recs) os) (at .loop .aligned) _ (c .aligned-time .result) nan (alignedRow recs noRow) (at .loop .inv .2 ps e) refl
+          upTo-step over i (now (a .aligned)) (map (alignedRow recs) os) (at .loop .aligned) _
+          (c .aligned-time .result) nan (alignedRow recs noRow) (at .loop .inv .2 ps e) refl
           (c .aligned-time .ensures
           ∙ ap (λ (r : Alignment). alignedBy r (getD (now (a .rt)) i nan)) (sym at-file)
           ∙ row-time recs (now (a .file)) ps (now (a .rt)) i
-          ∙ ap (alignedRow recs) (sym (rows-at (now (a .file)) ps (now (a .rt)) i noRow (t .loop-test .taken) (omega arith) (omega arith)))
+          ∙ ap (alignedRow recs)
+          (sym (rows-at (now (a .file)) ps (now (a .rt)) i noRow (t .loop-test .taken) (omega arith) (omega arith)))
           ∙ sym (List·getD-map (alignedRow recs) os i noRow))
           (omega (arith, length-map os (alignedRow recs), length-rows (now (a .file)) ps (now (a .rt)) e (s .pre .0))),
     )
@@ -141,7 +157,10 @@ returns c = λ ps e.
     let columns = fileColumnsAt (a .max-rt) (a .slope) (a .intercept) in
     let recs = recordsOf columns in
     let os = observations (now (a .file)) ps (now (a .rt)) in
-    at .loop .inv .2 ps e ∙ upTo-all _ _ _ _ (omega arith) ∙ zipped-over _ _ (s .pre .1 ∙ sym (length-map os (alignedRow recs) ∙ length-rows (now (a .file)) ps (now (a .rt)) e (s .pre .0)))
+    at .loop .inv .2 ps e
+    ∙ upTo-all _ _ _ _ (omega arith)
+    ∙ zipped-over _ _
+    (s .pre .1 ∙ sym (length-map os (alignedRow recs) ∙ length-rows (now (a .file)) ps (now (a .rt)) e (s .pre .0)))
 
 pub align-rows-spec : {M : Type 1} → statement M
 align-rows-spec =

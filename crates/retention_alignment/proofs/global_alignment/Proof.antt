@@ -29,46 +29,73 @@ check-requires : tie.Need-check-requires
 check-requires c κs = search needs
 
 returns : tie.Need-returns
-returns c = let s = start (c .before) in refused (input s) (slices s) (c .before .check .result) (c .before .check .ensures) (c .if1 .taken)
+returns c =
+    let s = start (c .before) in
+    refused (input s) (slices s) (c .before .check .result) (c .before .check .ensures) (c .if1 .taken)
+
+-- where the cells are counted, as each slice that is lent sees it
+abbrev lent1 : tie.After-align-arg → tie.After-cell-count
+lent1 c = c .before
+
+abbrev lent2 : tie.After-align-arg2 → tie.After-cell-count
+lent2 c = lent1 (c .before)
+
+abbrev lent3 : tie.After-align-arg3 → tie.After-cell-count
+lent3 c = lent2 (c .before)
+
+abbrev lent4 : tie.After-align-arg4 → tie.After-cell-count
+lent4 c = lent3 (c .before)
+
+abbrev lent5 : tie.After-align-arg5 → tie.After-cell-count
+lent5 c = lent4 (c .before)
+
+abbrev worked : tie.After-slice-known10 → tie.After-align
+worked c = c .before .before .before .before .before .before .before .before .before .before
+
+-- the workspace has the counted cells
+cells-fit : (d : tie.After-cell-count)
+    → d .cell-count .result ≤ length (slices (start (d .before .before)) .workspace)
+cells-fit d = omega (arith, checks (d .before) .workspace, d .cell-count .ensures)
 
 cell-count-requires : tie.Need-cell-count-requires
-cell-count-requires c κs = let l = checks c .within in (omega (arith, l .peptides-max), omega (arith, l .files-max), omega (arith, l .cells-max))
+cell-count-requires c κs =
+    let l = checks c .within in
+    (omega (arith, l .peptides-max), omega (arith, l .files-max), omega (arith, l .cells-max))
 
 slice-relend-prefix-align : tie.Need-slice-relend-prefix-align
-slice-relend-prefix-align c = omega (arith, checks (c .before) .workspace, c .cell-count .ensures)
+slice-relend-prefix-align c = cells-fit c
 
 slice-aggregate-align : tie.Need-slice-aggregate-align
-slice-aggregate-align c = let d = c .before in sym (length-take-le (d .cell-count .result) _ (omega (arith, checks (d .before) .workspace, d .cell-count .ensures)))
+slice-aggregate-align c = sym (length-take-le _ _ (cells-fit (lent1 c)))
 
 slice-relend-prefix-align-2 : tie.Need-slice-relend-prefix-align-2
-slice-relend-prefix-align-2 c = checks (c .before .before) .records .maxRt
+slice-relend-prefix-align-2 c = checks (lent1 c .before) .records .maxRt
 
 slice-aggregate-align-2 : tie.Need-slice-aggregate-align-2
-slice-aggregate-align-2 c = sym (length-take-le _ _ (checks (c .before .before .before) .records .maxRt))
+slice-aggregate-align-2 c = sym (length-take-le _ _ (checks (lent2 c .before) .records .maxRt))
 
 slice-relend-prefix-align-3 : tie.Need-slice-relend-prefix-align-3
-slice-relend-prefix-align-3 c = checks (c .before .before .before) .records .slope
+slice-relend-prefix-align-3 c = checks (lent2 c .before) .records .slope
 
 slice-aggregate-align-3 : tie.Need-slice-aggregate-align-3
-slice-aggregate-align-3 c = sym (length-take-le _ _ (checks (c .before .before .before .before) .records .slope))
+slice-aggregate-align-3 c = sym (length-take-le _ _ (checks (lent3 c .before) .records .slope))
 
 slice-relend-prefix-align-4 : tie.Need-slice-relend-prefix-align-4
-slice-relend-prefix-align-4 c = checks (c .before .before .before .before) .records .intercept
+slice-relend-prefix-align-4 c = checks (lent3 c .before) .records .intercept
 
 slice-aggregate-align-4 : tie.Need-slice-aggregate-align-4
-slice-aggregate-align-4 c = sym (length-take-le _ _ (checks (c .before .before .before .before .before) .records .intercept))
+slice-aggregate-align-4 c = sym (length-take-le _ _ (checks (lent4 c .before) .records .intercept))
 
 slice-relend-prefix-align-5 : tie.Need-slice-relend-prefix-align-5
-slice-relend-prefix-align-5 c = checks (c .before .before .before .before .before) .aligned
+slice-relend-prefix-align-5 c = checks (lent4 c .before) .aligned
 
 slice-aggregate-align-5 : tie.Need-slice-aggregate-align-5
-slice-aggregate-align-5 c = sym (length-take-le _ _ (checks (c .before .before .before .before .before .before) .aligned))
+slice-aggregate-align-5 c = sym (length-take-le _ _ (checks (lent5 c .before) .aligned))
 
 align-requires : tie.Need-align-requires
 align-requires c κs =
-    let d = c .before .before .before .before .before in
+    let d = lent5 c in
     let p = checks (d .before) in
-    let n = d .cell-count .ensures in
     record {
       peptide = p .peptide;
       label = p .label;
@@ -79,7 +106,7 @@ align-requires c κs =
       cells-max = p .within .cells-max;
       file-numbers = p .file-numbers;
       peptide-numbers = p .peptide-numbers;
-      workspace = length-take-le (d .cell-count .result) _ (omega (arith, p .workspace, n)) ∙ n;
+      workspace = length-take-le (d .cell-count .result) _ (cells-fit d) ∙ d .cell-count .ensures;
       records = first-each _ _ (p .records);
       aligned = length-take-le _ _ (p .aligned);
     }
@@ -101,14 +128,13 @@ same-length-5 c = search needs
 
 returns-2 : tie.Need-returns-2
 returns-2 c =
-    let w = c .before .before .before .before .before .before .before .before .before .before in
-    let d = w .before .before .before .before .before .before in
+    let w = worked c in
+    let d = lent5 (w .before) in
     let e = d .before in
     let s = start (e .before) in
     let l = w .align .last .1 .1 .1 .1 .1 .1 .1 in
     let k = w .align .kept .1 .1 .1 .1 .1 .1 .1 in
     let p = checks e in
-    let n = d .cell-count .ensures in
     let f = first-each (s .args .files) (slices s .records) (p .records) in
     accepted-is (input s) (slices s)
     (record {
@@ -118,9 +144,9 @@ returns-2 c =
     })
     (d .cell-count .result)
     (sym (e .before .check .ensures) ∙ e .if1 .left)
-    n
+    (d .cell-count .ensures)
     (w .align .ensures)
-    (k .0 ∙ length-take-le (d .cell-count .result) _ (omega (arith, p .workspace, n)))
+    (k .0 ∙ length-take-le (d .cell-count .result) _ (cells-fit d))
     (record { maxRt = k .1 .0 ∙ f .maxRt; slope = k .1 .1 .0 ∙ f .slope; intercept = k .1 .1 .1 .0 ∙ f .intercept })
     (k .1 .1 .1 .1 .0 ∙ length-take-le _ _ (p .aligned))
 

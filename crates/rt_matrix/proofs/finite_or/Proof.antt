@@ -11,11 +11,15 @@ is-finite64-requires c κs = search needs
 
 returns : tie.Need-returns
 unfolding finiteOr
-returns c = let a = c .before .before .args in sym (ap (λ (b : Bool). cond b (a .x) (a .d)) (sym (c .before .is-finite64 .ensures) ∙ c .if1 .taken))
+returns c =
+    let a = c .before .before .args in
+    sym (ap (λ (b : Bool). cond b (a .x) (a .d)) (sym (c .before .is-finite64 .ensures) ∙ c .if1 .taken))
 
 returns-2 : tie.Need-returns-2
 unfolding finiteOr
-returns-2 c = let a = c .before .before .args in sym (ap (λ (b : Bool). cond b (a .x) (a .d)) (sym (c .before .is-finite64 .ensures) ∙ c .if1 .left))
+returns-2 c =
+    let a = c .before .before .args in
+    sym (ap (λ (b : Bool). cond b (a .x) (a .d)) (sym (c .before .is-finite64 .ensures) ∙ c .if1 .left))
 
 pub finite-or-spec : {M : Type 1} → statement M
 finite-or-spec = tie.close (tie.spec is-finite64-requires returns returns-2)

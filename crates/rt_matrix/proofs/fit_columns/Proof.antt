@@ -22,7 +22,8 @@ use Rattle.rt_matrix.proofs.fit_columns.Tie as tie
 
 -- where the function begins, from each call
 abbrev start : tie.After-add-peptides-arg4 → tie.Start
-start c = c .before .before .before .before .before .before .before .before .before .before .before .before .before .before .before
+start c =
+    c .before .before .before .before .before .before .before .before .before .before .before .before .before .before .before
 
 abbrev first : tie.After-x-means-arg3 → tie.After-add-peptides
 first c = c .before .before .before .before .before .before .before .before .before .before .before
@@ -33,8 +34,13 @@ second c = c .before .before .before .before
 abbrev third : tie.After-store-alignments-arg8 → tie.After-add-peptides2
 third c = c .before .before .before .before .before .before .before .before .before .before
 
-sized : (s : tie.Start) → Sized (length (now (s .args .max))) (now (s .args .len)) (now (s .args .dot)) (now (s .args .sum-x)) (now (s .args .sum-y))
-sized s = let a = s .args in fresh-sized (length (now (a .max))) (now (a .len)) (now (a .dot)) (now (a .sum-x)) (now (a .sum-y)) (now (a .x-mean)) (now (a .sx2)) (s .pre .0)
+sized : (s : tie.Start)
+    → Sized (length (now (s .args .max))) (now (s .args .len)) (now (s .args .dot)) (now (s .args .sum-x))
+    (now (s .args .sum-y))
+sized s =
+    let a = s .args in
+    fresh-sized (length (now (a .max))) (now (a .len)) (now (a .dot)) (now (a .sum-x)) (now (a .sum-y))
+    (now (a .x-mean)) (now (a .sx2)) (s .pre .0)
 
 -- the columns of sums keep their lengths
 after : (r : tie.After-add-peptides)
@@ -42,7 +48,12 @@ after : (r : tie.After-add-peptides)
 after r =
     let k = r .add-peptides .kept in
     let z = sized (start (r .before)) in
-    record { len = k .1 .1 .1 .0 ∙ z .len; dot = k .1 .1 .1 .1 .0 ∙ z .dot; sumX = k .1 .1 .1 .1 .1 .0 ∙ z .sumX; sumY = k .1 .1 .1 .1 .1 .1 .0 ∙ z .sumY }
+    record {
+      len = k .1 .1 .1 .0 ∙ z .len;
+      dot = k .1 .1 .1 .1 .0 ∙ z .dot;
+      sumX = k .1 .1 .1 .1 .1 .0 ∙ z .sumX;
+      sumY = k .1 .1 .1 .1 .1 .1 .0 ∙ z .sumY;
+    }
 
 add-peptides-requires : tie.Need-add-peptides-requires
 add-peptides-requires c κs =
@@ -112,7 +123,9 @@ returns c =
     let w = s .pre .0 in
     let n = length (now (a .max)) in
     let z = sized s in
-    let squares = fresh-squares n (now (a .len)) (now (a .dot)) (now (a .sum-x)) (now (a .sum-y)) (now (a .x-mean)) (now (a .sx2)) w in
+    let squares =
+    fresh-squares n (now (a .len)) (now (a .dot)) (now (a .sum-x)) (now (a .sum-y)) (now (a .x-mean))
+    (now (a .sx2)) w in
     t .store-alignments .ensures
     ∙ fitted (now (a .max)) (a .peptides) (now (a .cells)) (s .pre .1 .0)
     (sumsOf (now (a .len)) (now (a .dot)) (now (a .sum-x)) (now (a .sum-y)))

@@ -55,7 +55,8 @@ returns c =
     let i = c .narrow3 .ensures ∙ ap narrowed (c .before .finite-or2 .ensures) in
     ap (λ (x : Float). rec x (c .before .before .narrow2 .result) (c .narrow3 .result)) m
     ∙ ap₂ (rec (narrowed (number (a .max)))) s i
-    ∙ ap (λ (x : Float). fitted (a .max) x (a .s .dot) (a .s .«sum_x») (a .s .«sum_y») (a .sx2)) (count .u32-to-f64 .ensures)
+    ∙ ap (λ (x : Float). fitted (a .max) x (a .s .dot) (a .s .«sum_x») (a .s .«sum_y») (a .sx2))
+    (count .u32-to-f64 .ensures)
 
 pub fit-line-spec : {M : Type 1} → statement M
 fit-line-spec =

@@ -22,48 +22,72 @@ unfolding ofBits round
 start = refl
 
 -- a part of an array that a repeat made
-part : {A : Type 0} (ms : List ℕ) (v : A) → length ms ≤ maxFiles → length ms ≡ length (take (length ms) (replicate maxFiles v))
-part ms v h = sym (length-take-le (length ms) (replicate maxFiles v) (omega (arith, length-replicate maxFiles v)))
+part : {A : Type 0} (ms : List ℕ) (v : A) → length ms ≤ maxFiles
+    → length ms ≡ length (take (length ms) (replicate maxFiles v))
+part ms v h =
+    sym (length-take-le (length ms) (replicate maxFiles v) (omega (arith, length-replicate maxFiles v)))
+
+-- where the function begins, as each array that is lent sees it
+abbrev begin : tie.After-slice-known3 → tie.Start
+begin c = c .before .before .before .before .before
+
+abbrev lent1 : tie.After-len → tie.Start
+lent1 c = begin (c .before)
+
+abbrev lent2 : tie.After-dot → tie.Start
+lent2 c = lent1 (c .before)
+
+abbrev lent3 : tie.After-sum-x → tie.Start
+lent3 c = lent2 (c .before)
+
+abbrev lent4 : tie.After-sum-y → tie.Start
+lent4 c = lent3 (c .before)
+
+abbrev lent5 : tie.After-x-mean → tie.Start
+lent5 c = lent4 (c .before)
+
+abbrev lent6 : tie.After-sx2 → tie.Start
+lent6 c = lent5 (c .before)
 
 array-borrow-prefix-len : tie.Need-array-borrow-prefix-len
 array-borrow-prefix-len c = search needs
 
 slice-aggregate-fit-columns : tie.Need-slice-aggregate-fit-columns
-slice-aggregate-fit-columns c = part (now (c .before .before .before .before .before .before .args .max)) 0 (c .before .before .before .before .before .before .pre .2)
+slice-aggregate-fit-columns c = let s = lent1 c in part (now (s .args .max)) 0 (s .pre .2)
 
 array-borrow-prefix-dot : tie.Need-array-borrow-prefix-dot
 array-borrow-prefix-dot c = search needs
 
 slice-aggregate-fit-columns-2 : tie.Need-slice-aggregate-fit-columns-2
-slice-aggregate-fit-columns-2 c = part (now (c .before .before .before .before .before .before .before .args .max)) zero64 (c .before .before .before .before .before .before .before .pre .2)
+slice-aggregate-fit-columns-2 c = let s = lent2 c in part (now (s .args .max)) zero64 (s .pre .2)
 
 array-borrow-prefix-sum-x : tie.Need-array-borrow-prefix-sum-x
 array-borrow-prefix-sum-x c = search needs
 
 slice-aggregate-fit-columns-3 : tie.Need-slice-aggregate-fit-columns-3
-slice-aggregate-fit-columns-3 c = part (now (c .before .before .before .before .before .before .before .before .args .max)) zero64 (c .before .before .before .before .before .before .before .before .pre .2)
+slice-aggregate-fit-columns-3 c = let s = lent3 c in part (now (s .args .max)) zero64 (s .pre .2)
 
 array-borrow-prefix-sum-y : tie.Need-array-borrow-prefix-sum-y
 array-borrow-prefix-sum-y c = search needs
 
 slice-aggregate-fit-columns-4 : tie.Need-slice-aggregate-fit-columns-4
-slice-aggregate-fit-columns-4 c = part (now (c .before .before .before .before .before .before .before .before .before .args .max)) zero64 (c .before .before .before .before .before .before .before .before .before .pre .2)
+slice-aggregate-fit-columns-4 c = let s = lent4 c in part (now (s .args .max)) zero64 (s .pre .2)
 
 array-borrow-prefix-x-mean : tie.Need-array-borrow-prefix-x-mean
 array-borrow-prefix-x-mean c = search needs
 
 slice-aggregate-fit-columns-5 : tie.Need-slice-aggregate-fit-columns-5
-slice-aggregate-fit-columns-5 c = part (now (c .before .before .before .before .before .before .before .before .before .before .args .max)) zero64 (c .before .before .before .before .before .before .before .before .before .before .pre .2)
+slice-aggregate-fit-columns-5 c = let s = lent5 c in part (now (s .args .max)) zero64 (s .pre .2)
 
 array-borrow-prefix-sx2 : tie.Need-array-borrow-prefix-sx2
 array-borrow-prefix-sx2 c = search needs
 
 slice-aggregate-fit-columns-6 : tie.Need-slice-aggregate-fit-columns-6
-slice-aggregate-fit-columns-6 c = part (now (c .before .before .before .before .before .before .before .before .before .before .before .args .max)) _ (c .before .before .before .before .before .before .before .before .before .before .before .pre .2)
+slice-aggregate-fit-columns-6 c = let s = lent6 c in part (now (s .args .max)) _ (s .pre .2)
 
 fit-columns-requires : tie.Need-fit-columns-requires
 fit-columns-requires c κs =
-    let s = c .before .before .before .before .before .before .before .before .before .before .before .before .before .before in
+    let s = lent6 (c .before .before .before) in
     let n = length (now (s .args .max)) in
     let g = s .pre in (
       record {

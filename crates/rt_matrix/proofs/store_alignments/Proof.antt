@@ -29,7 +29,8 @@ Inv-loop max len dot sum-x sum-y sx2 max-rt₀ slope₀ intercept₀ f₀ max-rt
     (f ≤ length max)
     × EachOf (length max) (columns max-rt slope intercept)
     × (recordsOf (columns max-rt slope intercept)
-    ≡ upTo over f (recordsOf (columns max-rt₀ slope₀ intercept₀)) (recordsFrom max (sumsOf len dot sum-x sum-y) sx2))
+    ≡ upTo over f (recordsOf (columns max-rt₀ slope₀ intercept₀))
+    (recordsFrom max (sumsOf len dot sum-x sum-y) sx2))
 
 abbrev μ-loop : tie.MeasureT-loop
 μ-loop max len dot sum-x sum-y sx2 max-rt₀ slope₀ intercept₀ f₀ max-rt slope intercept f = length max - f

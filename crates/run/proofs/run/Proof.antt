@@ -26,13 +26,15 @@ held s =
 
 -- places in the code, each as a later one sees it
 abbrev start : tie.After-check → tie.Start
-start c = c .before .before .before .before .before .before .before .before .before .before .before .before .before .before .before .before .before .before .before .before .before .before
+start c =
+    c .before .before .before .before .before .before .before .before .before .before .before .before .before .before .before .before .before .before .before .before .before .before
 
 abbrev passed : tie.After-run-accepted-arg11 → tie.Else1
 passed c = c .before .before .before .before .before .before .before .before .before .before .before
 
 abbrev worked : tie.After-slice-known22 → tie.After-run-accepted
-worked c = c .before .before .before .before .before .before .before .before .before .before .before .before .before .before .before .before .before .before .before .before .before .before
+worked c =
+    c .before .before .before .before .before .before .before .before .before .before .before .before .before .before .before .before .before .before .before .before .before .before
 
 -- the status of a call that passed
 accepts : (e : tie.Else1) → status (input (start (e .before))) (held (start (e .before))) ≡ accepted

@@ -34,7 +34,8 @@ has-passed s = passed (input s) (roomOf (held s)) (s .pre)
 
 -- places in the code, each as a later one sees it: where it begins, and after each of the three calls
 abbrev start : tie.After-global-alignment → tie.Start
-start c = c .before .before .before .before .before .before .before .before .before .before .before .before .before .before .before .before .before .before .before .before .before .before .before .before .before .before .before
+start c =
+    c .before .before .before .before .before .before .before .before .before .before .before .before .before .before .before .before .before .before .before .before .before .before .before .before .before .before .before
 
 abbrev aligned-by : tie.After-slice-known16 → tie.After-global-alignment
 aligned-by c = c .before .before .before .before .before .before .before .before .before .before
@@ -43,7 +44,8 @@ abbrev before-retention : tie.After-predict → tie.After-slice-known16
 before-retention c = c .before .before .before .before .before .before
 
 abbrev retention-by : tie.After-predict2 → tie.After-predict
-retention-by c = c .before .before .before .before .before .before .before .before .before .before .before .before .before
+retention-by c =
+    c .before .before .before .before .before .before .before .before .before .before .before .before .before
 
 abbrev mobility-by : tie.After-outcome-of2 → tie.After-predict2
 mobility-by c = c .before .before .before .before .before .before .before .before .before .before
@@ -52,8 +54,12 @@ abbrev alignment : tie.After-outcome-of2 → tie.After-global-alignment
 alignment c = aligned-by (before-retention (retention-by (mobility-by c)))
 
 -- the aligned times are long enough for every row
-times-long : (c : tie.After-slice-known16) → length (input (start (aligned-by c)) .file) ≤ length (aligned-by c .global-alignment .last .1 .1 .1 .1 .1 .1 .1 .1 .1 .1 .1 .0)
-times-long c = let g = aligned-by c in omega (arith, has-passed (start g) .long .aligned, g .global-alignment .kept .1 .1 .1 .1 .1 .1 .1 .1 .1 .1 .1 .0)
+times-long : (c : tie.After-slice-known16)
+    → length (input (start (aligned-by c)) .file) ≤ length
+    (aligned-by c .global-alignment .last .1 .1 .1 .1 .1 .1 .1 .1 .1 .1 .1 .0)
+times-long c =
+    let g = aligned-by c in
+    omega (arith, has-passed (start g) .long .aligned, g .global-alignment .kept .1 .1 .1 .1 .1 .1 .1 .1 .1 .1 .1 .0)
 
 global-alignment-requires : tie.Need-global-alignment-requires
 global-alignment-requires c κs = search needs
@@ -81,7 +87,9 @@ same-length c =
     let y = mobility-by c in
     let x = retention-by y in
     let g = alignment c in
-    y .predict2 .kept .1 .1 .1 .1 .1 .1 .1 .1 .0 ∙ x .predict .kept .1 .1 .1 .1 .1 .1 .1 .1 .0 ∙ g .global-alignment .kept .1 .1 .1 .1 .1 .1 .1 .0
+    y .predict2 .kept .1 .1 .1 .1 .1 .1 .1 .1 .0
+    ∙ x .predict .kept .1 .1 .1 .1 .1 .1 .1 .1 .0
+    ∙ g .global-alignment .kept .1 .1 .1 .1 .1 .1 .1 .0
 
 same-length-2 : tie.Need-same-length-2
 same-length-2 c = let g = alignment c in search needs

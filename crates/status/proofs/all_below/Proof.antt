@@ -33,8 +33,11 @@ cast-x : tie.Need-cast-x Inv-loop μ-loop
 cast-x c = omega (arith, c .shared-slice-known .given (c .before .before .loop .i))
 
 -- what is left from i on, by the test at i
-left : (n i : ℕ) (xs : List ℕ) → i < length xs → allBelow n (drop i xs) ≡ ltb (getD xs i 0) n && allBelow n (drop (i + 1) xs)
-left n i xs h = every-step (λ x. ltb x n) i xs 0 h ∙ ap (λ (k : ℕ). ltb (getD xs i 0) n && allBelow n (drop k xs)) (sym (add-one i))
+left : (n i : ℕ) (xs : List ℕ) → i < length xs
+    → allBelow n (drop i xs) ≡ ltb (getD xs i 0) n && allBelow n (drop (i + 1) xs)
+left n i xs h =
+    every-step (λ x. ltb x n) i xs 0 h
+    ∙ ap (λ (k : ℕ). ltb (getD xs i 0) n && allBelow n (drop k xs)) (sym (add-one i))
 
 returns : tie.Need-returns Inv-loop μ-loop
 returns c =
@@ -64,4 +67,6 @@ returns-2 c =
     rw (drop-of-length-le (p .xs .now) {i = l .loop .i} (omega arith)) at (l .loop .inv .1)
 
 pub all-below-spec : {M : Type 1} → statement M
-all-below-spec = tie.close (tie.spec Inv-loop μ-loop loop-holds mul-x shared-slice-read-x cast-x returns add-i loop-less loop-again returns-2)
+all-below-spec =
+    tie.close
+    (tie.spec Inv-loop μ-loop loop-holds mul-x shared-slice-read-x cast-x returns add-i loop-less loop-again returns-2)

@@ -20,7 +20,8 @@ quotient max files peptides h = cases (decLe peptides (max / files))
 returns : tie.Need-returns
 returns c =
     let p = c .before .args in
-    let none : p .peptides * p .files ≡ 0 = ap (λ (n : ℕ). p .peptides * n) (c .if1 .taken) ∙ mul-zero (p .peptides) in
+    let none : p .peptides * p .files ≡ 0 =
+    ap (λ (n : ℕ). p .peptides * n) (c .if1 .taken) ∙ mul-zero (p .peptides) in
     sym (le-leb (p .peptides * p .files) (p .cells) (omega (arith, none)))
 
 div-result : tie.Need-div-result

@@ -46,7 +46,8 @@ sub-result-2 : tie.Need-sub-result-2
 sub-result-2 c = below (4294967295 - c .before .args .b) (omega arith)
 
 returns-2 : tie.Need-returns-2
-returns-2 c = toZ-ofZ (sub-result-2 c) ∙ minus (4294967295 - b) (omega arith) ∙ sym (upper b (omega arith) (omega arith))
+returns-2 c =
+    toZ-ofZ (sub-result-2 c) ∙ minus (4294967295 - b) (omega arith) ∙ sym (upper b (omega arith) (omega arith))
   where
     b : ℕ
     b = c .before .args .b

@@ -28,7 +28,8 @@ same-length-5 c = search needs
 
 returns : tie.Need-returns
 returns c =
-    let entry = c .before .before .before .before .before .before .before .before .before .before .before .global-alignment .ensures in
+    let entry =
+    c .before .before .before .before .before .before .before .before .before .before .before .global-alignment .ensures in
     exported ofAlign _ (c .of-align .ensures) (entry .answer) entry
 
 pub zorkamai-align-spec : {M : Type 1} → statement M

@@ -46,7 +46,8 @@ same-length-11 c = search needs
 
 returns : tie.Need-returns
 returns c =
-    let entry = c .before .before .before .before .before .before .before .before .before .before .before .before .before .before .before .before .before .before .before .before .before .before .before .run .ensures in
+    let entry =
+    c .before .before .before .before .before .before .before .before .before .before .before .before .before .before .before .before .before .before .before .before .before .before .before .run .ensures in
     exported ofRun _ (c .of-run .ensures) (entry .answer) entry
 
 pub zorkamai-run-spec : {M : Type 1} → statement M

@@ -18,7 +18,9 @@ same-length-2 : tie.Need-same-length-2
 same-length-2 c = search needs
 
 returns : tie.Need-returns
-returns c = exported ofSolve _ (c .of-solve .ensures) (c .before .before .before .before .before .solve .ensures .answer) (c .before .before .before .before .before .solve .ensures)
+returns c =
+    exported ofSolve _ (c .of-solve .ensures) (c .before .before .before .before .before .solve .ensures .answer)
+    (c .before .before .before .before .before .solve .ensures)
 
 pub zorkamai-solve-spec : {M : Type 1} → statement M
 zorkamai-solve-spec =

@@ -15,10 +15,14 @@ cast-result-2 : tie.Need-cast-result-2
 cast-result-2 c = search needs
 
 mul-result : tie.Need-mul-result
-mul-result c = let l : c .args .row * c .args .w ≤ maxOrder * maxWidth = mul-le-mul (c .pre .0) (c .pre .1) in omega arith
+mul-result c =
+    let l : c .args .row * c .args .w ≤ maxOrder * maxWidth = mul-le-mul (c .pre .0) (c .pre .1) in
+    omega arith
 
 cast-result-3 : tie.Need-cast-result-3
-cast-result-3 c = let l : c .args .row * c .args .w ≤ maxOrder * maxWidth = mul-le-mul (c .pre .0) (c .pre .1) in omega arith
+cast-result-3 c =
+    let l : c .args .row * c .args .w ≤ maxOrder * maxWidth = mul-le-mul (c .pre .0) (c .pre .1) in
+    omega arith
 
 returns : tie.Need-returns
 returns c = search needs

@@ -28,9 +28,12 @@ module _ (n w h k : ℕ) where
       rw many at (pivot-within h k (rowsOf w n cells) (omega arith) (omega arith))
 
   -- p is the pivot row of column k, and starts at a
-  module _ (p a : ℕ) (cells : List Float) (lk : k < n) (lh : h ≤ n) (lw : n ≤ w) (is : p ≡ pivotRow h k (rowsOf w n cells)) (at : a ≡ p * w) where
+  module _ (p a : ℕ) (cells : List Float) (lk : k < n) (lh : h ≤ n) (lw : n ≤ w)
+      (is : p ≡ pivotRow h k (rowsOf w n cells)) (at : a ≡ p * w) where
     chosen : getD cells (a + k) nan ≡ cell k (rowOf (rowsOf w n cells) (pivotRow h k (rowsOf w n cells)))
-    chosen = rw (at, is) (sym (getD-rowsOf w n (pivotRow h k (rowsOf w n cells)) k cells nan (pivot-row cells lk lh) (omega arith)))
+    chosen =
+        rw (at, is)
+        (sym (getD-rowsOf w n (pivotRow h k (rowsOf w n cells)) k cells nan (pivot-row cells lk lh) (omega arith)))
 
     left : n - k ≡ suc (n - (k + 1))
     left = omega arith
@@ -39,13 +42,17 @@ module _ (n w h k : ℕ) where
         → echelonFrom (n - (k + 1)) (k + 1) h (rowsOf w n cells) ≡ echelonFrom (n - k) k h (rowsOf w n cells)
     passed e = rw (left, add-one k) (sym (column-passed (n - suc k) k h (rowsOf w n cells) (rw chosen at e)))
 
-    found : (others : List Float) → eq (getD cells (a + k) nan) zero64 ≡ false → rowsOf w n others ≡ clearBelow h k (swapped h p (rowsOf w n cells))
+    found : (others : List Float) → eq (getD cells (a + k) nan) zero64 ≡ false
+        → rowsOf w n others ≡ clearBelow h k (swapped h p (rowsOf w n cells))
         → echelonFrom (n - (k + 1)) (k + 1) (h + 1) (rowsOf w n others) ≡ echelonFrom (n - k) k h (rowsOf w n cells)
     unfolding columnEliminated
-    found others e r = rw (left, r, is, add-one k, add-one h) (sym (column-cleared (n - suc k) k h (rowsOf w n cells) (rw chosen at e)))
+    found others e r =
+        rw (left, r, is, add-one k, add-one h)
+        (sym (column-cleared (n - suc k) k h (rowsOf w n cells) (rw chosen at e)))
 
 abbrev Inv-loop : tie.InvT-loop
-Inv-loop cells₀ n w h₀ k₀ cells h k = (h ≤ k) × (k ≤ n) × (length cells ≡ length cells₀) × (echelonFrom (n - k) k h (rowsOf w n cells) ≡ echelon n (rowsOf w n cells₀))
+Inv-loop cells₀ n w h₀ k₀ cells h k =
+    (h ≤ k) × (k ≤ n) × (length cells ≡ length cells₀) × (echelonFrom (n - k) k h (rowsOf w n cells) ≡ echelon n (rowsOf w n cells₀))
 
 abbrev μ-loop : tie.MeasureT-loop
 μ-loop cells₀ n w h₀ k₀ cells h k = n - k
@@ -66,7 +73,9 @@ row-start-requires c κs =
     let p = c in
     let l = c .before .before .before in
     let s = l .before .before in
-    let q : p .pivot .result < s .args .n = rw (p .pivot .ensures) (pivot-row (s .args .n) (s .args .w) (l .loop .h) (l .loop .k) (l .loop .cells) (omega arith) (omega arith)) in
+    let q : p .pivot .result < s .args .n =
+    rw (p .pivot .ensures)
+    (pivot-row (s .args .n) (s .args .w) (l .loop .h) (l .loop .k) (l .loop .cells) (omega arith) (omega arith)) in
     let b = s .pre in omega arith
 
 add-p : tie.Need-add-p Inv-loop μ-loop
@@ -74,7 +83,9 @@ add-p c =
     let p = c .before in
     let l = c .before .before .before .before in
     let s = l .before .before in
-    let q : p .pivot .result < s .args .n = rw (p .pivot .ensures) (pivot-row (s .args .n) (s .args .w) (l .loop .h) (l .loop .k) (l .loop .cells) (omega arith) (omega arith)) in
+    let q : p .pivot .result < s .args .n =
+    rw (p .pivot .ensures)
+    (pivot-row (s .args .n) (s .args .w) (l .loop .h) (l .loop .k) (l .loop .cells) (omega arith) (omega arith)) in
     let e = inside (s .pre) (p .pivot .result) q in
     omega (arith, c .row-start .ensures)
 
@@ -83,7 +94,9 @@ mul-if1 c =
     let p = c .before in
     let l = c .before .before .before .before in
     let s = l .before .before in
-    let q : p .pivot .result < s .args .n = rw (p .pivot .ensures) (pivot-row (s .args .n) (s .args .w) (l .loop .h) (l .loop .k) (l .loop .cells) (omega arith) (omega arith)) in
+    let q : p .pivot .result < s .args .n =
+    rw (p .pivot .ensures)
+    (pivot-row (s .args .n) (s .args .w) (l .loop .h) (l .loop .k) (l .loop .cells) (omega arith) (omega arith)) in
     let e = inside (s .pre) (p .pivot .result) q in
     omega (arith, c .row-start .ensures)
 
@@ -92,7 +105,9 @@ slice-read-if1 c =
     let p = c .before .before in
     let l = c .before .before .before .before .before in
     let s = l .before .before in
-    let q : p .pivot .result < s .args .n = rw (p .pivot .ensures) (pivot-row (s .args .n) (s .args .w) (l .loop .h) (l .loop .k) (l .loop .cells) (omega arith) (omega arith)) in
+    let q : p .pivot .result < s .args .n =
+    rw (p .pivot .ensures)
+    (pivot-row (s .args .n) (s .args .w) (l .loop .h) (l .loop .k) (l .loop .cells) (omega arith) (omega arith)) in
     let e = inside (s .pre) (p .pivot .result) q in
     omega (arith, c .before .row-start .ensures, s .pre .left)
 
@@ -109,7 +124,10 @@ loop-again c =
       omega arith,
       omega arith,
       l .loop .inv .2,
-      passed (s .args .n) (s .args .w) (l .loop .h) (l .loop .k) (c .before .before .before .pivot .result) (c .before .before .row-start .result) (l .loop .cells) (c .before .before .before .before .before .loop-test .taken) (omega arith) (s .pre .left) (c .before .before .before .pivot .ensures) (c .before .before .row-start .ensures) (c .if1 .taken)
+      passed (s .args .n) (s .args .w) (l .loop .h) (l .loop .k) (c .before .before .before .pivot .result)
+          (c .before .before .row-start .result) (l .loop .cells)
+          (c .before .before .before .before .before .loop-test .taken) (omega arith) (s .pre .left)
+          (c .before .before .before .pivot .ensures) (c .before .before .row-start .ensures) (c .if1 .taken)
           ∙ l .loop .inv .3,
     )
 
@@ -118,14 +136,20 @@ eliminate-column-requires c κs =
     let p = c .before .before .before .before in
     let l = c .before .before .before .before .before .before .before in
     let s = l .before .before in
-    let q : p .pivot .result < s .args .n = rw (p .pivot .ensures) (pivot-row (s .args .n) (s .args .w) (l .loop .h) (l .loop .k) (l .loop .cells) (omega arith) (omega arith)) in
+    let q : p .pivot .result < s .args .n =
+    rw (p .pivot .ensures)
+    (pivot-row (s .args .n) (s .args .w) (l .loop .h) (l .loop .k) (l .loop .cells) (omega arith) (omega arith)) in
     (shape-kept (s .pre) (l .loop .inv .2), omega arith, q, c .before .before .before .before .before .before .loop-test .taken)
 
 add-h : tie.Need-add-h Inv-loop μ-loop
-add-h c = let b = c .before .before .before .before .before .before .before .before .before .before .before .before .pre in omega arith
+add-h c =
+    let b = c .before .before .before .before .before .before .before .before .before .before .before .before .pre in
+    omega arith
 
 add-k-2 : tie.Need-add-k-2 Inv-loop μ-loop
-add-k-2 c = let b = c .before .before .before .before .before .before .before .before .before .before .before .before .pre in omega arith
+add-k-2 c =
+    let b = c .before .before .before .before .before .before .before .before .before .before .before .before .pre in
+    omega arith
 
 loop-less-2 : tie.Need-loop-less-2 Inv-loop μ-loop
 loop-less-2 c = omega arith
@@ -138,7 +162,13 @@ loop-again-2 c =
       omega arith,
       omega arith,
       b .eliminate-column .kept .0 ∙ l .loop .inv .2,
-      found (s .args .n) (s .args .w) (l .loop .h) (l .loop .k) (c .before .before .before .before .before .before .before .pivot .result) (c .before .before .before .before .before .before .row-start .result) (l .loop .cells) (c .before .before .before .before .before .before .before .before .before .loop-test .taken) (omega arith) (s .pre .left) (c .before .before .before .before .before .before .before .pivot .ensures) (c .before .before .before .before .before .before .row-start .ensures) (b .eliminate-column .last .0) (c .before .before .before .before .if1 .left) (b .eliminate-column .ensures)
+      found (s .args .n) (s .args .w) (l .loop .h) (l .loop .k)
+          (c .before .before .before .before .before .before .before .pivot .result)
+          (c .before .before .before .before .before .before .row-start .result) (l .loop .cells)
+          (c .before .before .before .before .before .before .before .before .before .loop-test .taken) (omega arith)
+          (s .pre .left) (c .before .before .before .before .before .before .before .pivot .ensures)
+          (c .before .before .before .before .before .before .row-start .ensures) (b .eliminate-column .last .0)
+          (c .before .before .before .before .if1 .left) (b .eliminate-column .ensures)
           ∙ l .loop .inv .3,
     )
 

@@ -16,13 +16,16 @@ use borrow.Author.Needs.{needs}
 use Rattle.elimination.proofs.echelon.eliminate_column.Statement.{statement}
 use Rattle.elimination.proofs.echelon.eliminate_column.Tie as tie
 
-swapped-rows : (w n h i : ℕ) (cells : List Float) → h < n → i < n → length cells ≡ n * w → rowsOf w n (flat (swapped h i (rowsOf w n cells))) ≡ swapped h i (rowsOf w n cells)
+swapped-rows : (w n h i : ℕ) (cells : List Float) → h < n → i < n → length cells ≡ n * w
+    → rowsOf w n (flat (swapped h i (rowsOf w n cells))) ≡ swapped h i (rowsOf w n cells)
 swapped-rows w n h i cells lh li e =
     let rows : List (List Float) = rowsOf w n cells in
     let many : length rows ≡ n = length-rowsOf w n cells in
-    let len : length (swapped h i rows) ≡ n = length-set (set rows h (getD rows i [])) i (getD rows h []) ∙ length-set rows h (getD rows i []) ∙ many in
+    let len : length (swapped h i rows) ≡ n =
+    length-set (set rows h (getD rows i [])) i (getD rows h []) ∙ length-set rows h (getD rows i []) ∙ many in
     ap (λ (m : ℕ). rowsOf w m (flat (swapped h i rows))) (sym len)
-    ∙ rowsOf-flat w (swapped h i rows) (wide-swapped w h i rows (wide-rowsOf w n cells (omega arith)) (omega arith) (omega arith))
+    ∙ rowsOf-flat w (swapped h i rows)
+    (wide-swapped w h i rows (wide-rowsOf w n cells (omega arith)) (omega arith) (omega arith))
 
 cast-swap-rows : tie.Need-cast-swap-rows
 cast-swap-rows c = search needs

@@ -19,14 +19,16 @@ use Rattle.elimination.proofs.echelon.fill_zero.Statement.{statement}
 use Rattle.elimination.proofs.echelon.fill_zero.Tie as tie
 
 -- one row more
-turn : (n w i : ℕ) (eps : Float) (rows : List (List Float)) (xs : List Float) → i < n → n ≤ w → rowsOf w n xs ≡ made (ridged eps) i rows
+turn : (n w i : ℕ) (eps : Float) (rows : List (List Float)) (xs : List Float) → i < n → n ≤ w
+    → rowsOf w n xs ≡ made (ridged eps) i rows
     → rowsOf w n (set xs (i * w + i) (add binary64 (getD xs (i * w + i) nan) eps)) ≡ made (ridged eps) (suc i) rows
 turn n w i eps rows xs h l inv =
     rowsOf-cell w n i i xs (add binary64 (getD xs (i * w + i) nan) eps) h (omega arith)
     ∙ rw (← getD-rowsOf w n i i xs nan h (omega arith), inv) (made-suc (ridged eps) i rows [])
 
 abbrev Inv-loop : tie.InvT-loop
-Inv-loop cells₀ n w eps i₀ at₀ cells i at = (i ≤ n) × (at ≡ i * w) × (rowsOf w n cells ≡ made (ridged eps) i (rowsOf w n cells₀)) × (length cells ≡ length cells₀)
+Inv-loop cells₀ n w eps i₀ at₀ cells i at =
+    (i ≤ n) × (at ≡ i * w) × (rowsOf w n cells ≡ made (ridged eps) i (rowsOf w n cells₀)) × (length cells ≡ length cells₀)
 
 abbrev μ-loop : tie.MeasureT-loop
 μ-loop cells₀ n w eps i₀ at₀ cells i at = n - i
@@ -41,16 +43,24 @@ mul-cells : tie.Need-mul-cells Inv-loop μ-loop
 mul-cells c = let k = inside (c .before .before .pre) (c .before .loop .i) (c .loop-test .taken) in omega arith
 
 slice-read-cells : tie.Need-slice-read-cells Inv-loop μ-loop
-slice-read-cells c = let k = inside (c .before .before .before .pre) (c .before .before .loop .i) (c .before .loop-test .taken) in omega arith
+slice-read-cells c =
+    let k = inside (c .before .before .before .pre) (c .before .before .loop .i) (c .before .loop-test .taken) in
+    omega arith
 
 mul-cells-2 : tie.Need-mul-cells-2 Inv-loop μ-loop
-mul-cells-2 c = let k = inside (c .before .before .before .pre) (c .before .before .loop .i) (c .before .loop-test .taken) in omega arith
+mul-cells-2 c =
+    let k = inside (c .before .before .before .pre) (c .before .before .loop .i) (c .before .loop-test .taken) in
+    omega arith
 
 slice-write-cells : tie.Need-slice-write-cells Inv-loop μ-loop
-slice-write-cells c = let k = inside (c .before .before .before .pre) (c .before .before .loop .i) (c .before .loop-test .taken) in omega arith
+slice-write-cells c =
+    let k = inside (c .before .before .before .pre) (c .before .before .loop .i) (c .before .loop-test .taken) in
+    omega arith
 
 add-at : tie.Need-add-at Inv-loop μ-loop
-add-at c = let k = inside (c .before .before .before .pre) (c .before .before .loop .i) (c .before .loop-test .taken) in omega arith
+add-at c =
+    let k = inside (c .before .before .before .pre) (c .before .before .loop .i) (c .before .loop-test .taken) in
+    omega arith
 
 add-i : tie.Need-add-i Inv-loop μ-loop
 add-i c = search needs

@@ -19,7 +19,8 @@ use Rattle.elimination.proofs.echelon.pivot.Statement.{statement}
 use Rattle.elimination.proofs.echelon.pivot.Tie as tie
 
 abbrev Inv-loop : tie.InvT-loop
-Inv-loop cells n w h k best₀ max₀ at₀ i₀ best max at i = (i ≤ n) × (at ≡ i * w) × (largest i best max (map (cell k) (drop i (rowsOf w n cells))) ≡ pivotRow h k (rowsOf w n cells))
+Inv-loop cells n w h k best₀ max₀ at₀ i₀ best max at i =
+    (i ≤ n) × (at ≡ i * w) × (largest i best max (map (cell k) (drop i (rowsOf w n cells))) ≡ pivotRow h k (rowsOf w n cells))
 
 abbrev μ-loop : tie.MeasureT-loop
 μ-loop cells n w h k best₀ max₀ at₀ i₀ best max at i = n - i
@@ -32,16 +33,28 @@ unfolding neg ofBits
 loop-holds c = (c .before .before .pre .1, c .row-start .ensures, refl)
 
 add-p : tie.Need-add-p Inv-loop μ-loop
-add-p c = let k = inside (c .before .before .before .before .pre .0) (c .before .loop .i) (c .loop-test .taken) in omega arith
+add-p c =
+    let k = inside (c .before .before .before .before .pre .0) (c .before .loop .i) (c .loop-test .taken) in
+    omega arith
 
 mul-x : tie.Need-mul-x Inv-loop μ-loop
-mul-x c = let k = inside (c .before .before .before .before .pre .0) (c .before .loop .i) (c .loop-test .taken) in omega arith
+mul-x c =
+    let k = inside (c .before .before .before .before .pre .0) (c .before .loop .i) (c .loop-test .taken) in
+    omega arith
 
 shared-slice-read-x : tie.Need-shared-slice-read-x Inv-loop μ-loop
-shared-slice-read-x c = let k = inside (c .before .before .before .before .before .pre .0) (c .before .before .loop .i) (c .before .loop-test .taken) in omega arith
+shared-slice-read-x c =
+    let k =
+    inside (c .before .before .before .before .before .pre .0) (c .before .before .loop .i)
+    (c .before .loop-test .taken) in
+    omega arith
 
 add-at : tie.Need-add-at Inv-loop μ-loop
-add-at c = let k = inside (c .before .before .before .before .before .pre .0) (c .before .before .loop .i) (c .before .loop-test .taken) in omega arith
+add-at c =
+    let k =
+    inside (c .before .before .before .before .before .pre .0) (c .before .before .loop .i)
+    (c .before .loop-test .taken) in
+    omega arith
 
 add-i : tie.Need-add-i Inv-loop μ-loop
 add-i c = search needs
@@ -56,7 +69,8 @@ loop-again c =
     let rows : List (List Float) = rowsOf (s .args .w) (s .args .n) (now (s .args .cells)) in
     let h : l .loop .i < length rows = rw length-rowsOf (c .before .before .loop-test .taken) in
     let here : cell (s .args .k) (rowOf rows (l .loop .i)) ≡ getD (now (s .args .cells)) (l .loop .at + s .args .k) nan =
-    rw (l .loop .inv .1) (getD-rowsOf (s .args .w) (s .args .n) (l .loop .i) (s .args .k) (now (s .args .cells)) nan (c .before .before .loop-test .taken) (omega arith)) in
+    rw (l .loop .inv .1)
+    (getD-rowsOf (s .args .w) (s .args .n) (l .loop .i) (s .args .k) (now (s .args .cells)) nan (c .before .before .loop-test .taken) (omega arith)) in
     (omega arith, omega arith, rw add-one (sym (largest-taken (s .args .k) rows (l .loop .i) (l .loop .best) (l .loop .max) _ h here (c .if1 .taken)) ∙ l .loop .inv .2))
 
 add-i-2 : tie.Need-add-i-2 Inv-loop μ-loop
@@ -72,7 +86,8 @@ loop-again-2 c =
     let rows : List (List Float) = rowsOf (s .args .w) (s .args .n) (now (s .args .cells)) in
     let h : l .loop .i < length rows = rw length-rowsOf (c .before .before .loop-test .taken) in
     let here : cell (s .args .k) (rowOf rows (l .loop .i)) ≡ getD (now (s .args .cells)) (l .loop .at + s .args .k) nan =
-    rw (l .loop .inv .1) (getD-rowsOf (s .args .w) (s .args .n) (l .loop .i) (s .args .k) (now (s .args .cells)) nan (c .before .before .loop-test .taken) (omega arith)) in
+    rw (l .loop .inv .1)
+    (getD-rowsOf (s .args .w) (s .args .n) (l .loop .i) (s .args .k) (now (s .args .cells)) nan (c .before .before .loop-test .taken) (omega arith)) in
     (omega arith, omega arith, rw add-one (sym (largest-passed (s .args .k) rows (l .loop .i) (l .loop .best) (l .loop .max) _ h here (c .if1 .left)) ∙ l .loop .inv .2))
 
 returns : tie.Need-returns Inv-loop μ-loop

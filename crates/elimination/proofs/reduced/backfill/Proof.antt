@@ -16,14 +16,16 @@ use borrow.Author.Needs.{needs}
 use Rattle.elimination.proofs.reduced.backfill.Statement.{statement}
 use Rattle.elimination.proofs.reduced.backfill.Tie as tie
 
-row-used : (n i : ℕ) (rows new : List (List Float)) → 0 < i → new ≡ clearAbove n (i - 1) rows → backfillFrom n (i - 1) new ≡ backfillFrom n i rows
+row-used : (n i : ℕ) (rows new : List (List Float)) → 0 < i → new ≡ clearAbove n (i - 1) rows
+    → backfillFrom n (i - 1) new ≡ backfillFrom n i rows
 unfolding backfillFrom
 row-used n i rows new h e =
     let one : suc (i - 1) ≡ i = omega arith in
     ap (backfillFrom n (i - 1)) e ∙ ap (λ (m : ℕ). backfillFrom n m rows) one
 
 abbrev Inv-loop : tie.InvT-loop
-Inv-loop cells₀ n w i₀ cells i = (i ≤ n) × (length cells ≡ length cells₀) × (backfillFrom n i (rowsOf w n cells) ≡ backfill n (rowsOf w n cells₀))
+Inv-loop cells₀ n w i₀ cells i =
+    (i ≤ n) × (length cells ≡ length cells₀) × (backfillFrom n i (rowsOf w n cells) ≡ backfill n (rowsOf w n cells₀))
 
 abbrev μ-loop : tie.MeasureT-loop
 μ-loop cells₀ n w i₀ cells i = i

@@ -21,11 +21,14 @@ use Rattle.elimination.proofs.reduced.left_solved.Statement.{statement}
 use Rattle.elimination.proofs.reduced.left_solved.Tie as tie
 
 -- the left cells of row i
-left-part : (n w i a : ℕ) (cells : List Float) → i < n → n ≤ w → a ≡ i * w → take (a + n - a) (drop a cells) ≡ take n (rowOf (rowsOf w n cells) i)
-left-part n w i a cells h l e = rw (add-sub-cancel-left, row-rowsOf w n i cells h, take-take n w (drop (i * w) cells) l, e) refl
+left-part : (n w i a : ℕ) (cells : List Float) → i < n → n ≤ w → a ≡ i * w
+    → take (a + n - a) (drop a cells) ≡ take n (rowOf (rowsOf w n cells) i)
+left-part n w i a cells h l e =
+    rw (add-sub-cancel-left, row-rowsOf w n i cells h, take-take n w (drop (i * w) cells) l, e) refl
 
 abbrev Inv-loop : tie.InvT-loop
-Inv-loop cells n w i₀ at₀ i at = (i ≤ n) × (at ≡ i * w) × (solvedFrom n i (drop i (rowsOf w n cells)) ≡ leftSolved n (rowsOf w n cells))
+Inv-loop cells n w i₀ at₀ i at =
+    (i ≤ n) × (at ≡ i * w) × (solvedFrom n i (drop i (rowsOf w n cells)) ≡ leftSolved n (rowsOf w n cells))
 
 abbrev μ-loop : tie.MeasureT-loop
 μ-loop cells n w i₀ at₀ i at = n - i
@@ -34,10 +37,18 @@ loop-holds : tie.Need-loop-holds Inv-loop μ-loop
 loop-holds c = (search needs, sym (zero-mul _), refl)
 
 add-end : tie.Need-add-end Inv-loop μ-loop
-add-end c = let l = c .before in let s = l .before .before in let e = inside (s .pre) (l .loop .i) (c .loop-test .taken) in omega (arith, s .pre .left)
+add-end c =
+    let l = c .before in
+    let s = l .before .before in
+    let e = inside (s .pre) (l .loop .i) (c .loop-test .taken) in
+    omega (arith, s .pre .left)
 
 mul-row-solved : tie.Need-mul-row-solved Inv-loop μ-loop
-mul-row-solved c = let l = c .before in let s = l .before .before in let e = inside (s .pre) (l .loop .i) (c .loop-test .taken) in omega arith
+mul-row-solved c =
+    let l = c .before in
+    let s = l .before .before in
+    let e = inside (s .pre) (l .loop .i) (c .loop-test .taken) in
+    omega arith
 
 sub-row-solved : tie.Need-sub-row-solved Inv-loop μ-loop
 sub-row-solved c = search needs
@@ -46,7 +57,11 @@ part-row-solved-start : tie.Need-part-row-solved-start Inv-loop μ-loop
 part-row-solved-start c = search needs
 
 part-row-solved-end : tie.Need-part-row-solved-end Inv-loop μ-loop
-part-row-solved-end c = let l = c .before in let s = l .before .before in let e = inside (s .pre) (l .loop .i) (c .loop-test .taken) in omega (arith, s .pre .left)
+part-row-solved-end c =
+    let l = c .before in
+    let s = l .before .before in
+    let e = inside (s .pre) (l .loop .i) (c .loop-test .taken) in
+    omega (arith, s .pre .left)
 
 row-solved-requires : tie.Need-row-solved-requires Inv-loop μ-loop
 row-solved-requires c κs = search needs
@@ -59,11 +74,21 @@ returns c =
     let r = c .before .row-solved in
     let t : l .loop .i < s .args .n = c .before .before .before .loop-test .taken in
     let h : l .loop .i < length rows = rw length-rowsOf t in
-    let is = r .ensures ∙ ap (rowSolved (l .loop .i) 0) (left-part (s .args .n) (s .args .w) (l .loop .i) (l .loop .at) (now (s .args .cells)) t (s .pre .left) (l .loop .inv .1)) in
-    test-fails (r .result) (rowSolved (l .loop .i) 0 (take (s .args .n) (rowOf rows (l .loop .i)))) (solvedFrom (s .args .n) (suc (l .loop .i)) (drop (suc (l .loop .i)) rows)) (solvedFrom (s .args .n) (l .loop .i) (drop (l .loop .i) rows)) (leftSolved (s .args .n) rows) is (left-solved-row (s .args .n) (l .loop .i) rows h) (l .loop .inv .2) (c .if1 .taken)
+    let is =
+    r .ensures
+    ∙ ap (rowSolved (l .loop .i) 0)
+    (left-part (s .args .n) (s .args .w) (l .loop .i) (l .loop .at) (now (s .args .cells)) t (s .pre .left) (l .loop .inv .1)) in
+    test-fails (r .result) (rowSolved (l .loop .i) 0 (take (s .args .n) (rowOf rows (l .loop .i))))
+    (solvedFrom (s .args .n) (suc (l .loop .i)) (drop (suc (l .loop .i)) rows))
+    (solvedFrom (s .args .n) (l .loop .i) (drop (l .loop .i) rows)) (leftSolved (s .args .n) rows) is
+    (left-solved-row (s .args .n) (l .loop .i) rows h) (l .loop .inv .2) (c .if1 .taken)
 
 add-at : tie.Need-add-at Inv-loop μ-loop
-add-at c = let l = c .before .before .before .before in let s = l .before .before in let e = inside (s .pre) (l .loop .i) (c .before .before .before .loop-test .taken) in omega arith
+add-at c =
+    let l = c .before .before .before .before in
+    let s = l .before .before in
+    let e = inside (s .pre) (l .loop .i) (c .before .before .before .loop-test .taken) in
+    omega arith
 
 add-i : tie.Need-add-i Inv-loop μ-loop
 add-i c = search needs
@@ -79,7 +104,10 @@ loop-again c =
     let r = c .before .row-solved in
     let t : l .loop .i < s .args .n = c .before .before .before .loop-test .taken in
     let h : l .loop .i < length rows = rw length-rowsOf t in
-    let is = r .ensures ∙ ap (rowSolved (l .loop .i) 0) (left-part (s .args .n) (s .args .w) (l .loop .i) (l .loop .at) (now (s .args .cells)) t (s .pre .left) (l .loop .inv .1)) in
+    let is =
+    r .ensures
+    ∙ ap (rowSolved (l .loop .i) 0)
+    (left-part (s .args .n) (s .args .w) (l .loop .i) (l .loop .at) (now (s .args .cells)) t (s .pre .left) (l .loop .inv .1)) in
     (omega arith, omega arith, rw add-one (test-holds (r .result) (rowSolved (l .loop .i) 0 (take (s .args .n) (rowOf rows (l .loop .i)))) (solvedFrom (s .args .n) (suc (l .loop .i)) (drop (suc (l .loop .i)) rows)) (solvedFrom (s .args .n) (l .loop .i) (drop (l .loop .i) rows)) (leftSolved (s .args .n) rows) is (left-solved-row (s .args .n) (l .loop .i) rows h) (l .loop .inv .2) (c .if1 .left)))
 
 returns-2 : tie.Need-returns-2 Inv-loop μ-loop

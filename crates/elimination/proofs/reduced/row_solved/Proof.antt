@@ -39,7 +39,9 @@ returns c =
     let row : List Float = now (s .args .row) in
     let r = c .before .cell-solved in
     let h : l .loop .j < length row = omega arith in
-    test-fails (r .result) _ (rowSolved (s .args .i) (suc (l .loop .j)) (drop (suc (l .loop .j)) row)) _ (rowSolved (s .args .i) 0 row) (r .ensures) (row-solved-cell (s .args .i) (l .loop .j) row h) (l .loop .inv .1) (c .if1 .taken)
+    test-fails (r .result) _ (rowSolved (s .args .i) (suc (l .loop .j)) (drop (suc (l .loop .j)) row)) _
+    (rowSolved (s .args .i) 0 row) (r .ensures) (row-solved-cell (s .args .i) (l .loop .j) row h) (l .loop .inv .1)
+    (c .if1 .taken)
 
 add-j : tie.Need-add-j Inv-loop μ-loop
 add-j c = search needs

@@ -24,8 +24,15 @@ abbrev μ-loop : tie.MeasureT-loop
 abbrev start : tie.In-loop Inv-loop μ-loop → tie.Start Inv-loop μ-loop
 start c = c .before .before .before .before
 
-here : (c : tie.In-loop Inv-loop μ-loop) → let s = start c in let l = c .before .loop in Turn (length (now (s .args .by))) (s .args .m) (λ r. lessMultiple (s .args .j) (now (s .args .by))) (now (s .args .cells)) (l .cells) (l .at) (l .i)
-here c = let s = start c in let l = c .before .loop in turn (length (now (s .args .by))) (s .args .m) (λ r. lessMultiple (s .args .j) (now (s .args .by))) (now (s .args .cells)) (l .cells) (l .at) (l .i) (l .inv) (c .loop-test .taken) (s .pre .0)
+here : (c : tie.In-loop Inv-loop μ-loop)
+    → let s = start c in let l = c .before .loop in
+    Turn (length (now (s .args .by))) (s .args .m) (λ r. lessMultiple (s .args .j) (now (s .args .by)))
+    (now (s .args .cells)) (l .cells) (l .at) (l .i)
+here c =
+    let s = start c in
+    let l = c .before .loop in
+    turn (length (now (s .args .by))) (s .args .m) (λ r. lessMultiple (s .args .j) (now (s .args .by)))
+    (now (s .args .cells)) (l .cells) (l .at) (l .i) (l .inv) (c .loop-test .taken) (s .pre .0)
 
 loop-holds : tie.Need-loop-holds Inv-loop μ-loop
 loop-holds c = (search needs, sym (zero-mul _), made-none _ _, refl)
@@ -55,7 +62,9 @@ loop-less : tie.Need-loop-less Inv-loop μ-loop
 loop-less c = search needs
 
 loop-again : tie.Need-loop-again Inv-loop μ-loop
-loop-again c = let done = c .before .before .subtract-multiple in here (c .before .before .before .before) .next (done .last .0) (done .kept .0) (done .ensures)
+loop-again c =
+    let done = c .before .before .subtract-multiple in
+    here (c .before .before .before .before) .next (done .last .0) (done .kept .0) (done .ensures)
 
 same-length : tie.Need-same-length Inv-loop μ-loop
 same-length c = c .before .loop .inv .3

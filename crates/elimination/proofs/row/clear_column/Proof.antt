@@ -30,7 +30,8 @@ put-cleared : (k : ℕ) (row pivot part : List Float) → k < length row
 unfolding cleared
 put-cleared k row pivot part h e =
     put-rest (k + 1) (set row k zero64) part
-    ∙ rw (e, rest (k + 1) (set row k zero64), rest (k + 1) pivot, add-one, take-suc-set row k zero64 h, drop-set-lt (suc k) row k zero64 (le-refl (suc k)), append-snoc) refl
+    ∙ rw
+    (e, rest (k + 1) (set row k zero64), rest (k + 1) pivot, add-one, take-suc-set row k zero64 h, drop-set-lt (suc k) row k zero64 (le-refl (suc k)), append-snoc) refl
 
 mul-factor : tie.Need-mul-factor
 mul-factor c = search needs
@@ -85,7 +86,8 @@ same-length c =
     let b = c .before .before in
     let s = b .before .before .before .before .before .before .before in
     let row : List Float = set (now (s .args .row)) (s .args .k) (ofBits binary64 0) in
-    same-len-mid (s .args .k + 1) (length row - (s .args .k + 1)) row (b .subtract-scaled .last .0) (b .subtract-scaled .kept .0)
+    same-len-mid (s .args .k + 1) (length row - (s .args .k + 1)) row (b .subtract-scaled .last .0)
+    (b .subtract-scaled .kept .0)
     ∙ length-set (now (s .args .row)) (s .args .k) (ofBits binary64 0)
 
 returns : tie.Need-returns

@@ -14,7 +14,8 @@ use Rattle.elimination.proofs.row.divide.Statement.{statement}
 use Rattle.elimination.proofs.row.divide.Tie as tie
 
 abbrev Inv-loop : tie.InvT-loop
-Inv-loop dst₀ x j₀ dst j = (j ≤ length dst₀) × (dst ≡ made (λ i. dividedBy x) j dst₀) × (length dst ≡ length dst₀)
+Inv-loop dst₀ x j₀ dst j =
+    (j ≤ length dst₀) × (dst ≡ made (λ i. dividedBy x) j dst₀) × (length dst ≡ length dst₀)
 
 abbrev μ-loop : tie.MeasureT-loop
 μ-loop dst₀ x j₀ dst j = length dst₀ - j

@@ -18,7 +18,8 @@ use Rattle.elimination.proofs.row.divide_row.Statement.{statement}
 use Rattle.elimination.proofs.row.divide_row.Tie as tie
 
 module _ (n j : ℕ) (row : List Float) where
-  put-divided : (part : List Float) → j ≡ leading n row → j < n → part ≡ map (dividedBy (cell j row)) (take (length row - j) (drop j row))
+  put-divided : (part : List Float) → j ≡ leading n row → j < n
+      → part ≡ map (dividedBy (cell j row)) (take (length row - j) (drop j row))
       → putMid j (length row - j) row part ≡ divided n row
   unfolding divided
   put-divided part e h p =
@@ -67,7 +68,8 @@ returns c =
     let b = c .before .before in
     let f = b .before .before .before .before in
     let s = f .before .before .before in
-    put-divided (s .args .n) (f .first-nonzero .result) (now (s .args .row)) (b .divide .last .0) (f .first-nonzero .ensures) (b .before .before .before .if1 .taken) (b .divide .ensures)
+    put-divided (s .args .n) (f .first-nonzero .result) (now (s .args .row)) (b .divide .last .0)
+    (f .first-nonzero .ensures) (b .before .before .before .if1 .taken) (b .divide .ensures)
 
 same-length-2 : tie.Need-same-length-2
 same-length-2 c = search needs

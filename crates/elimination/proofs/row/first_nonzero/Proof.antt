@@ -40,7 +40,8 @@ loop-again : tie.Need-loop-again Inv-loop μ-loop
 loop-again c =
     let l = c .before .before .before in
     let row : List Float = now (l .before .args .row) in
-    let e : leadingZeros (drop (l .loop .j) row) ≡ suc (leadingZeros (drop (suc (l .loop .j)) row)) = zeros-more row _ (omega arith) (c .if1 .taken) in
+    let e : leadingZeros (drop (l .loop .j) row) ≡ suc (leadingZeros (drop (suc (l .loop .j)) row)) =
+    zeros-more row _ (omega arith) (c .if1 .taken) in
     (omega arith, rw add-one (omega (arith, e, l .loop .inv .1)))
 
 returns : tie.Need-returns Inv-loop μ-loop

@@ -23,7 +23,8 @@ use Rattle.elimination.proofs.system.augment.Tie as tie
 module _ (n c : ℕ) where
   -- row i of the two sides, which start there at l and r
   joined : (i l r : ℕ) (left right : List Float) → i < n → l ≡ i * n → r ≡ i * c
-      → take (l + n - l) (drop l left) ++ take (r + c - r) (drop r right) ≡ rowOf (augmented (rowsOf n n left) (rowsOf c n right)) i
+      → take (l + n - l) (drop l left) ++ take (r + c - r) (drop r right)
+      ≡ rowOf (augmented (rowsOf n n left) (rowsOf c n right)) i
   joined i l r left right h el er =
       let hl : i < length (rowsOf n n left) = rw length-rowsOf h in
       let hr : i < length (rowsOf c n right) = rw length-rowsOf h in
@@ -32,7 +33,8 @@ module _ (n c : ℕ) where
 
   many : (left right : List Float) → length (augmented (rowsOf n n left) (rowsOf c n right)) ≡ n
   many left right =
-      length-augmented (rowsOf n n left) (rowsOf c n right) (length-rowsOf n n left ∙ sym (length-rowsOf c n right)) ∙ length-rowsOf n n left
+      length-augmented (rowsOf n n left) (rowsOf c n right) (length-rowsOf n n left ∙ sym (length-rowsOf c n right))
+      ∙ length-rowsOf n n left
 
 abbrev Inv-loop : tie.InvT-loop
 Inv-loop cells₀ left right n c i₀ at₀ l₀ r₀ cells i at l r =
@@ -40,7 +42,8 @@ Inv-loop cells₀ left right n c i₀ at₀ l₀ r₀ cells i at l r =
     × (at ≡ i * (n + c))
     × (l ≡ i * n)
     × (r ≡ i * c)
-    × (rowsOf (n + c) n cells ≡ made (λ j x. rowOf (augmented (rowsOf n n left) (rowsOf c n right)) j) i (rowsOf (n + c) n cells₀))
+    ×
+    (rowsOf (n + c) n cells ≡ made (λ j x. rowOf (augmented (rowsOf n n left) (rowsOf c n right)) j) i (rowsOf (n + c) n cells₀))
     × (length cells ≡ length cells₀)
 
 abbrev μ-loop : tie.MeasureT-loop
@@ -49,8 +52,10 @@ abbrev μ-loop : tie.MeasureT-loop
 -- row i ends within the cells and within the two sides
 bounds : (c : tie.In-loop Inv-loop μ-loop)
     → (c .before .loop .at + c .before .before .before .before .before .args .n + c .before .before .before .before .before .args .c ≤ length (c .before .loop .cells))
-    × (c .before .loop .l + c .before .before .before .before .before .args .n ≤ length (now (c .before .before .before .before .before .args .left)))
-    × (c .before .loop .r + c .before .before .before .before .before .args .c ≤ length (now (c .before .before .before .before .before .args .right)))
+    ×
+    (c .before .loop .l + c .before .before .before .before .before .args .n ≤ length (now (c .before .before .before .before .before .args .left)))
+    ×
+    (c .before .loop .r + c .before .before .before .before .before .args .c ≤ length (now (c .before .before .before .before .before .args .right)))
 bounds c =
     let l = c .before in
     let s = l .before .before .before .before in
@@ -164,7 +169,8 @@ returns c =
     let n : ℕ = s .args .n in
     let k : ℕ = s .args .c in
     l .loop .inv .4
-    ∙ made-copy (augmented (rowsOf n n (now (s .args .left))) (rowsOf k n (now (s .args .right)))) [] (l .loop .i) (rowsOf (n + k) n (now (s .args .cells)))
+    ∙ made-copy (augmented (rowsOf n n (now (s .args .left))) (rowsOf k n (now (s .args .right)))) [] (l .loop .i)
+    (rowsOf (n + k) n (now (s .args .cells)))
     (length-rowsOf (n + k) n (now (s .args .cells)) ∙ sym (many n k (now (s .args .left)) (now (s .args .right))))
     (rw length-rowsOf (omega arith))
 

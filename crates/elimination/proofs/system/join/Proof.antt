@@ -14,7 +14,8 @@ use Rattle.elimination.proofs.system.join.Statement.{statement}
 use Rattle.elimination.proofs.system.join.Tie as tie
 
 put-both : (left right row front back : List Float) → front ≡ left → back ≡ right
-    → putMid (length left) (length (front ++ drop (length left) row) - length left) (front ++ drop (length left) row) back ≡ left ++ right
+    → putMid (length left) (length (front ++ drop (length left) row) - length left) (front ++ drop (length left) row) back
+    ≡ left ++ right
 put-both left right row front back ef eb =
     put-rest (length left) (front ++ drop (length left) row) back
     ∙ rw (take-at front (drop (length left) row) (length left) (ap length ef), ef, eb) refl
@@ -23,10 +24,14 @@ slice-relend-prefix-copy : tie.Need-slice-relend-prefix-copy
 slice-relend-prefix-copy c = search needs
 
 slice-aggregate-copy : tie.Need-slice-aggregate-copy
-slice-aggregate-copy c = let s = c .before .before .before .before in sym (length-take-le (length (now (s .args .left))) (now (s .args .row)) (omega arith))
+slice-aggregate-copy c =
+    let s = c .before .before .before .before in
+    sym (length-take-le (length (now (s .args .left))) (now (s .args .row)) (omega arith))
 
 copy-requires : tie.Need-copy-requires
-copy-requires c κs = let s = c .before .before .before .before in length-take-le (length (now (s .args .left))) (now (s .args .row)) (omega arith)
+copy-requires c κs =
+    let s = c .before .before .before .before in
+    length-take-le (length (now (s .args .left))) (now (s .args .row)) (omega arith)
 
 mul-copy : tie.Need-mul-copy
 mul-copy c = search needs
@@ -47,7 +52,11 @@ same-length : tie.Need-same-length
 same-length c = search needs
 
 returns : tie.Need-returns
-returns c = let s = c .before .before .before .before .before .before .before .before .before .before .before in put-both (now (s .args .left)) (now (s .args .right)) (now (s .args .row)) (c .before .before .before .before .before .before .copy .last .0) (c .before .before .copy2 .last .0) (c .before .before .before .before .before .before .copy .ensures) (c .before .before .copy2 .ensures)
+returns c =
+    let s = c .before .before .before .before .before .before .before .before .before .before .before in
+    put-both (now (s .args .left)) (now (s .args .right)) (now (s .args .row))
+    (c .before .before .before .before .before .before .copy .last .0) (c .before .before .copy2 .last .0)
+    (c .before .before .before .before .before .before .copy .ensures) (c .before .before .copy2 .ensures)
 
 pub join-spec : {M : Type 1} → statement M
 join-spec =

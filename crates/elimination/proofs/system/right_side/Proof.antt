@@ -26,7 +26,8 @@ use Rattle.elimination.proofs.system.right_side.Tie as tie
 right-part : (n c i a : ℕ) (cells : List Float) → i < n → a ≡ i * (n + c)
     → take (a + n + c - (a + n)) (drop (a + n) cells) ≡ getD (map (drop n) (rowsOf (n + c) n cells)) i (drop n [])
 right-part n c i a cells h e =
-    rw (add-sub-cancel-left (a + n) c, List·getD-map (drop n) (rowsOf (n + c) n cells) i [], row-rowsOf (n + c) n i cells h, drop-take n c (drop (i * (n + c)) cells), drop-drop n (i * (n + c)) cells, e)
+    rw
+    (add-sub-cancel-left (a + n) c, List·getD-map (drop n) (rowsOf (n + c) n cells) i [], row-rowsOf (n + c) n i cells h, drop-take n c (drop (i * (n + c)) cells), drop-drop n (i * (n + c)) cells, e)
     refl
 
 abbrev Inv-loop : tie.InvT-loop
@@ -34,7 +35,8 @@ Inv-loop solution₀ cells n c i₀ at₀ s₀ solution i at s =
     (i ≤ n)
     × (at ≡ i * (n + c))
     × (s ≡ i * c)
-    × (rowsOf c n solution ≡ made (λ j x. getD (map (drop n) (rowsOf (n + c) n cells)) j (drop n [])) i (rowsOf c n solution₀))
+    ×
+    (rowsOf c n solution ≡ made (λ j x. getD (map (drop n) (rowsOf (n + c) n cells)) j (drop n [])) i (rowsOf c n solution₀))
     × (length solution ≡ length solution₀)
 
 abbrev μ-loop : tie.MeasureT-loop
@@ -95,7 +97,8 @@ copy-canonical-requires c κs =
     let t : l .loop .i < n = c .before .before .loop-test .taken in
     let ends = bounds (c .before .before) in
     let to = part-length (l .loop .s) (l .loop .s + k - l .loop .s) (l .loop .solution) (omega arith) in
-    let from = part-length (l .loop .at + n) (l .loop .at + n + k - (l .loop .at + n)) (now (s .args .cells)) (omega arith) in
+    let from =
+    part-length (l .loop .at + n) (l .loop .at + n + k - (l .loop .at + n)) (now (s .args .cells)) (omega arith) in
     omega (arith, to, from)
 
 add-i : tie.Need-add-i Inv-loop μ-loop

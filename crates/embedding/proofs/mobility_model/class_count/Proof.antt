@@ -20,7 +20,8 @@ abbrev left : List Float → List ℕ → ℕ → List Float
 left counts class i = map (λ k. getD counts k zero64) (drop i class)
 
 abbrev Inv-loop : tie.InvT-loop
-Inv-loop counts class sum₀ i₀ sum i = (i ≤ length class) × (sumFrom sum (left counts class i) ≡ sumFrom zero64 (left counts class 0))
+Inv-loop counts class sum₀ i₀ sum i =
+    (i ≤ length class) × (sumFrom sum (left counts class i) ≡ sumFrom zero64 (left counts class 0))
 
 abbrev μ-loop : tie.MeasureT-loop
 μ-loop counts class sum₀ i₀ sum i = length class - i
@@ -54,7 +55,9 @@ unfolding classSum
 returns c =
     let a = c .before .before .before .before .args in
     let l = c .before .loop in
-    sym (ap (λ (ks : List ℕ). sumFrom (l .sum) (map (λ k. getD (now (a .counts)) k zero64) ks)) (drop-of-length-le (now (a .class)) {i = l .i} (c .loop-test .left))) ∙ l .inv .1
+    sym
+    (ap (λ (ks : List ℕ). sumFrom (l .sum) (map (λ k. getD (now (a .counts)) k zero64) ks)) (drop-of-length-le (now (a .class)) {i = l .i} (c .loop-test .left)))
+    ∙ l .inv .1
 
 pub class-count-spec : {M : Type 1} → statement M
 class-count-spec =

@@ -70,7 +70,8 @@ part-embed-part-end c = search needs
 
 embed-part-requires-2 : tie.Need-embed-part-requires-2
 embed-part-requires-2 c κs =
-    let s = c .before .before .before .before .before .before .before .before .before .before .before .before .before .before .before .before .before in
+    let s =
+    c .before .before .before .before .before .before .before .before .before .before .before .before .before .before .before .before .before in
     (omega (arith, s .pre .0, ap length (c .before .n-terminal .ensures), chosen-le nTerminal (now (s .args .letters))), search needs)
 
 c-terminal-requires : tie.Need-c-terminal-requires
@@ -87,7 +88,8 @@ part-embed-part-end-2 c = search needs
 
 embed-part-requires-3 : tie.Need-embed-part-requires-3
 embed-part-requires-3 c κs =
-    let s = c .before .before .before .before .before .before .before .before .before .before .before .before .before .before .before .before .before .before .before .before .before .before in
+    let s =
+    c .before .before .before .before .before .before .before .before .before .before .before .before .before .before .before .before .before .before .before .before .before .before in
     (omega (arith, s .pre .0, ap length (c .before .c-terminal .ensures), chosen-le (cTerminal Mobility) (now (s .args .letters))), search needs)
 
 slice-aggregate-put-classes : tie.Need-slice-aggregate-put-classes
@@ -113,19 +115,30 @@ part-put-scalars-start c = search needs
 
 part-put-scalars-end : tie.Need-part-put-scalars-end
 part-put-scalars-end c =
-    let s = c .before .before .before .before .before .before .before .before .before .before .before .before .before .before .before .before .before .before .before .before .before .before .before .before .before .before .before .before .before .before in
+    let s =
+    c .before .before .before .before .before .before .before .before .before .before .before .before .before .before .before .before .before .before .before .before .before .before .before .before .before .before .before .before .before .before in
     let r0 : List Float = now (s .args .row) in
-    let b1 : List Float = c .before .before .before .before .before .before .before .before .before .before .before .before .before .before .before .before .before .before .before .before .before .before .put-counts .last .1 .0 in
-    let n1 = same-len-mid 0 22 r0 b1 (c .before .before .before .before .before .before .before .before .before .before .before .before .before .before .before .before .before .before .before .before .before .before .put-counts .kept .1 .0) in
+    let b1 : List Float =
+    c .before .before .before .before .before .before .before .before .before .before .before .before .before .before .before .before .before .before .before .before .before .before .put-counts .last .1 .0 in
+    let n1 =
+    same-len-mid 0 22 r0 b1
+    (c .before .before .before .before .before .before .before .before .before .before .before .before .before .before .before .before .before .before .before .before .before .before .put-counts .kept .1 .0) in
     let r1 : List Float = returned 0 22 r0 b1 in
-    let b2 : List Float = c .before .before .before .before .before .before .before .before .before .before .before .before .before .before .before .before .before .put-shares .last .1 .1 .0 in
-    let n2 = same-len-mid 22 22 r1 b2 (c .before .before .before .before .before .before .before .before .before .before .before .before .before .before .before .before .before .put-shares .kept .1 .1 .0) in
+    let b2 : List Float =
+    c .before .before .before .before .before .before .before .before .before .before .before .before .before .before .before .before .before .put-shares .last .1 .1 .0 in
+    let n2 =
+    same-len-mid 22 22 r1 b2
+    (c .before .before .before .before .before .before .before .before .before .before .before .before .before .before .before .before .before .put-shares .kept .1 .1 .0) in
     let r2 : List Float = returned 22 22 r1 b2 in
-    let b3 : List Float = c .before .before .before .before .before .before .before .before .before .before .before .before .embed-part2 .last .1 .0 in
-    let n3 = same-len-mid 44 22 r2 b3 (c .before .before .before .before .before .before .before .before .before .before .before .before .embed-part2 .kept .1 .0) in
+    let b3 : List Float =
+    c .before .before .before .before .before .before .before .before .before .before .before .before .embed-part2 .last .1 .0 in
+    let n3 =
+    same-len-mid 44 22 r2 b3
+    (c .before .before .before .before .before .before .before .before .before .before .before .before .embed-part2 .kept .1 .0) in
     let r3 : List Float = returned 44 22 r2 b3 in
     let b4 : List Float = c .before .before .before .before .before .before .before .embed-part3 .last .1 .0 in
-    let n4 = same-len-mid 66 22 r3 b4 (c .before .before .before .before .before .before .before .embed-part3 .kept .1 .0) in
+    let n4 =
+    same-len-mid 66 22 r3 b4 (c .before .before .before .before .before .before .before .embed-part3 .kept .1 .0) in
     let r4 : List Float = returned 66 22 r3 b4 in
     let b5 : List Float = c .before .before .put-classes .last .1 .0 in
     let n5 = same-len-mid 88 6 r4 b5 (c .before .before .put-classes .kept .1 .0) in
@@ -140,11 +153,14 @@ same-length c = search needs
 returns : tie.Need-returns
 unfolding mobilityRow block
 returns c =
-    let s = c .before .before .before .before .before .before .before .before .before .before .before .before .before .before .before .before .before .before .before .before .before .before .before .before .before .before .before .before .before .before .before .before .before .before in
+    let s =
+    c .before .before .before .before .before .before .before .before .before .before .before .before .before .before .before .before .before .before .before .before .before .before .before .before .before .before .before .before .before .before .before .before .before .before in
     let l = now (s .args .letters) in
     let old = now (s .args .row) in
     let n = length l in
-    let e = c .before .before .before .before .before .before .before .before .before .before .before .before .before .before .before .before .before .before .before .before .before .before .before .before .before .before .before .before .before .before .embed-part .ensures ∙ append-nil _ in
+    let e =
+    c .before .before .before .before .before .before .before .before .before .before .before .before .before .before .before .before .before .before .before .before .before .before .before .before .before .before .before .before .before .before .embed-part .ensures
+    ∙ append-nil _ in
     let d1 = next-block 0 22 22 [] (block everywhere l) old old _ (done-none old) (length-block everywhere l) (omega arith) (omega (arith, s .pre .1))
     (copied l _ _ _ (c .before .before .before .before .before .before .before .before .before .before .before .before .before .before .before .before .before .before .before .before .before .before .before .before .before .before .put-counts .ensures) e) in
     let d2 = next-block 22 22 22 _ (map (share n) (counts everywhere l)) old _ _ d1 (length-map (counts everywhere l) (share n) ∙ length-counts everywhere l) (omega arith) (omega (arith, s .pre .1))
@@ -155,7 +171,8 @@ returns c =
     (embedded l (cTerminal Mobility) _ _ _ (c .before .before .before .before .before .before .before .before .before .before .before .embed-part3 .ensures) (c .before .before .before .before .before .before .before .before .before .before .before .before .before .c-terminal .ensures)) in
     let d5 = next-block 88 6 6 _ (map number (classCounts l)) old _ _ d4 (length-map (classCounts l) number ∙ length-classCounts l) (omega arith) (omega (arith, s .pre .1))
     (classes-written l _ _ _ (s .pre .0) (c .before .before .before .before .before .before .put-classes .ensures) e) in
-    next-block 94 6 6 _ (mobilityScalars n (s .args .mass) (s .args .charge)) old _ _ d5 refl (omega arith) (omega (arith, s .pre .1)) (c .before .before .put-scalars .ensures) .cells
+    next-block 94 6 6 _ (mobilityScalars n (s .args .mass) (s .args .charge)) old _ _ d5 refl (omega arith)
+    (omega (arith, s .pre .1)) (c .before .before .put-scalars .ensures) .cells
 
 pub embed-spec : {M : Type 1} → statement M
 embed-spec =

@@ -69,7 +69,8 @@ same-length c = simp length-set
 returns : tie.Need-returns
 unfolding classSums
 returns c =
-    let s = c .before .before .before .before .before .before .before .before .before .before .before .before .before .before in
+    let s =
+    c .before .before .before .before .before .before .before .before .before .before .before .before .before .before in
     rw (
       c .before .before .before .before .before .before .before .before .before .before .class-count .ensures,
       c .before .before .before .before .before .before .before .before .class-count2 .ensures,

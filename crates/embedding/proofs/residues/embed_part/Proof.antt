@@ -53,7 +53,9 @@ column-requires c κs = search needs
 
 -- the column of the letter at hand
 below : (c : tie.After-column Inv-loop μ-loop) → c .column .result < 22
-below c = omega (arith, c .column .ensures, column-below (getD (now (c .before .before .before .before .before .before .before .before .before .before .args .part)) (c .before .before .before .loop .i) 0))
+below c =
+    omega
+    (arith, c .column .ensures, column-below (getD (now (c .before .before .before .before .before .before .before .before .before .before .args .part)) (c .before .before .before .loop .i) 0))
 
 mul-row : tie.Need-mul-row Inv-loop μ-loop
 mul-row c = let h = below c in omega arith
@@ -79,7 +81,10 @@ loop-again c =
     let l = c .before .before .before .before in
     let p = now (c .before .before .before .before .before .before .before .before .before .before .before .args .part) in (
       omega arith,
-      cells-next 22 columnOf p (l .loop .row) _ (l .loop .i) (l .loop .inv .1) (c .before .column .result) _ (omega arith) (c .before .before .before .before .before .before .before .before .before .before .before .pre .0) (c .before .column .ensures) (below (c .before)),
+      cells-next 22 columnOf p (l .loop .row) _ (l .loop .i) (l .loop .inv .1) (c .before .column .result) _
+          (omega arith)
+          (c .before .before .before .before .before .before .before .before .before .before .before .pre .0)
+          (c .before .column .ensures) (below (c .before)),
       simp length-set (l .loop .inv .2),
     )
 
@@ -94,7 +99,8 @@ returns c =
     let p = now (s .args .part) in
     let z = cleared (now (s .args .row)) _ (s .pre .1) (c .before .before .before .before .zeros .ensures) in
     l .loop .inv .1
-    ∙ ap₂ (λ (xs : List ℕ) (r : List Float). map number (tallied (range 0 22) (map columnOf xs)) ++ r) (take-all (l .loop .i) p (c .loop-test .left)) (z .1)
+    ∙ ap₂ (λ (xs : List ℕ) (r : List Float). map number (tallied (range 0 22) (map columnOf xs)) ++ r)
+    (take-all (l .loop .i) p (c .loop-test .left)) (z .1)
 
 pub embed-part-spec : {M : Type 1} → statement M
 embed-part-spec =

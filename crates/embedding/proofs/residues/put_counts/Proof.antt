@@ -14,7 +14,8 @@ use Rattle.embedding.proofs.residues.put_counts.Statement.{statement}
 use Rattle.embedding.proofs.residues.put_counts.Tie as tie
 
 abbrev Inv-loop : tie.InvT-loop
-Inv-loop counts row₀ k₀ row k = (k ≤ length counts) × (row ≡ take k counts ++ drop k row₀) × (length row ≡ length row₀)
+Inv-loop counts row₀ k₀ row k =
+    (k ≤ length counts) × (row ≡ take k counts ++ drop k row₀) × (length row ≡ length row₀)
 
 abbrev μ-loop : tie.MeasureT-loop
 μ-loop counts row₀ k₀ row k = length counts - k

@@ -53,7 +53,8 @@ loop-again c =
     let new : List Float = map (shareOf (a .length)) cs in
     let n : length new ≡ length cs = length-map cs (shareOf (a .length)) in (
       omega arith,
-      rw (l .inv .1, c .before .before .before .u32-to-f64 .ensures, add-one, ← List·getD-map (shareOf (a .length)) cs (l .k) nan)
+      rw
+          (l .inv .1, c .before .before .before .u32-to-f64 .ensures, add-one, ← List·getD-map (shareOf (a .length)) cs (l .k) nan)
           (overwrite-suc new (now (a .row)) (l .k) (shareOf (a .length) nan) (omega arith) (omega arith)),
       simp length-set (l .inv .2),
     )

@@ -51,7 +51,8 @@ returns-3 : tie.Need-returns-3
 returns-3 c =
     let a = c .before .before .before .args in
     part (a .end - 2) (a .end) (now (a .letters)) (omega arith)
-    ∙ ap (λ (k : ℕ). drop k (take (a .end) (now (a .letters)))) {x = a .end - 2} {y = 2 + (a .end - 4)} (omega arith)
+    ∙ ap (λ (k : ℕ). drop k (take (a .end) (now (a .letters)))) {x = a .end - 2} {y = 2 + (a .end - 4)}
+    (omega arith)
 
 pub two-before-spec : {M : Type 1} → statement M
 two-before-spec =

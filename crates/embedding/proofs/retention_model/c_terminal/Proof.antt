@@ -17,7 +17,9 @@ returns : tie.Need-returns
 unfolding endOf
 returns c =
     let l = now (c .before .before .before .args .letters) in
-    c .two-before .ensures ∙ ap (λ (e : ℕ). drop (2 + (e - 4)) (take e l)) {x = 0} {y = length l - 1} (omega arith) ∙ sym (chosen-c Retention l)
+    c .two-before .ensures
+    ∙ ap (λ (e : ℕ). drop (2 + (e - 4)) (take e l)) {x = 0} {y = length l - 1} (omega arith)
+    ∙ sym (chosen-c Retention l)
 
 sub-two-before : tie.Need-sub-two-before
 sub-two-before c = search needs

@@ -80,7 +80,8 @@ same-length c = search needs
 returns : tie.Need-returns
 unfolding retentionRow
 returns c =
-    let s = c .before .before .before .before .before .before .before .before .before .before .before .before .before .before .before .before .before .before .before .before in
+    let s =
+    c .before .before .before .before .before .before .before .before .before .before .before .before .before .before .before .before .before .before .before .before in
     let l = now (s .args .letters) in
     let old = now (s .args .row) in
     let d1 = next-block 0 22 22 [] (block everywhere l) old old _ (done-none old) (length-block everywhere l) (omega arith) (omega (arith, s .pre .1))
@@ -89,7 +90,8 @@ returns c =
     (embedded l nTerminal _ _ _ (c .before .before .before .before .before .before .before .before .before .before .before .embed-part2 .ensures) (c .before .before .before .before .before .before .before .before .before .before .before .before .before .n-terminal .ensures)) in
     let d3 = next-block 44 22 22 _ (block (cTerminal Retention) l) old _ _ d2 (length-block (cTerminal Retention) l) (omega arith) (omega (arith, s .pre .1))
     (embedded l (cTerminal Retention) _ _ _ (c .before .before .before .before .before .before .embed-part3 .ensures) (c .before .before .before .before .before .before .before .before .c-terminal .ensures)) in
-    next-block 66 3 3 _ (number (length l) ∷ s .args .log ∷ number 1 ∷ []) old _ _ d3 refl (omega arith) (omega (arith, s .pre .1)) (c .before .before .put-scalars .ensures) .cells
+    next-block 66 3 3 _ (number (length l) ∷ s .args .log ∷ number 1 ∷ []) old _ _ d3 refl (omega arith)
+    (omega (arith, s .pre .1)) (c .before .before .put-scalars .ensures) .cells
 
 pub embed-spec : {M : Type 1} → statement M
 embed-spec =

@@ -28,7 +28,8 @@ same-length c = search needs
 returns : tie.Need-returns
 returns c =
     let a = c .before .before .args in
-    rw (c .u32-to-f64 .ensures, one) (sets-eq (number (a .length) ∷ a .log ∷ number 1 ∷ []) (now (a .row)) 0 (c .before .before .pre))
+    rw (c .u32-to-f64 .ensures, one)
+    (sets-eq (number (a .length) ∷ a .log ∷ number 1 ∷ []) (now (a .row)) 0 (c .before .before .pre))
 
 pub put-scalars-spec : {M : Type 1} → statement M
 put-scalars-spec =

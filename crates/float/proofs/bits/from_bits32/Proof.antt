@@ -6,7 +6,9 @@ use Rattle.float.proofs.bits.from_bits32.Statement.{statement}
 use Rattle.float.proofs.bits.from_bits32.Tie as tie
 
 returns : tie.Need-returns
-returns c = let b = c .before .args .b in zero-by-zero binary32 ∙ sym (pattern-nan binary32 b (above-nan binary32 b (c .if1 .taken)))
+returns c =
+    let b = c .before .args .b in
+    zero-by-zero binary32 ∙ sym (pattern-nan binary32 b (above-nan binary32 b (c .if1 .taken)))
 
 float-from-bits-result : tie.Need-float-from-bits-result
 float-from-bits-result c = not-above binary32 (c .before .args .b) (c .if1 .left)

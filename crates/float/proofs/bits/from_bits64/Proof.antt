@@ -6,7 +6,9 @@ use Rattle.float.proofs.bits.from_bits64.Statement.{statement}
 use Rattle.float.proofs.bits.from_bits64.Tie as tie
 
 returns : tie.Need-returns
-returns c = let b = c .before .args .b in zero-by-zero binary64 ∙ sym (pattern-nan binary64 b (above-nan binary64 b (c .if1 .taken)))
+returns c =
+    let b = c .before .args .b in
+    zero-by-zero binary64 ∙ sym (pattern-nan binary64 b (above-nan binary64 b (c .if1 .taken)))
 
 float-from-bits-result : tie.Need-float-from-bits-result
 float-from-bits-result c = not-above binary64 (c .before .args .b) (c .if1 .left)

@@ -66,22 +66,28 @@ same-test a b false h k = sym (le-ltb a b (k refl))
 scaled : (t d n a D : ℕ) → 0 < D → a * 1 ≡ t * D → ltb (a * d) (n * D) ≡ ltb (t * d) n
 scaled t d n a D P e =
     let q : a * d ≡ t * d * D = ap (λ (y : ℕ). y * d) (sym (mul-one a) ∙ e) ∙ mul-right-comm t D d in
-    ap (λ (y : ℕ). ltb y (n * D)) q ∙ same-test (t * d) n (ltb (t * d * D) (n * D)) (λ h. lt-of-mul-lt-mul-right D (ltb-true (t * d * D) (n * D) h)) (λ h. le-of-mul-le-mul-right (ltb-false (t * d * D) (n * D) h) P)
+    ap (λ (y : ℕ). ltb y (n * D)) q
+    ∙ same-test (t * d) n (ltb (t * d * D) (n * D))
+    (λ h. lt-of-mul-lt-mul-right D (ltb-true (t * d * D) (n * D) h))
+    (λ h. le-of-mul-le-mul-right (ltb-false (t * d * D) (n * D) h) P)
 
-compared : (t m : ℕ) (e : ℤ) (x : Float) → HasValue x false t 1 → lt x (fin false m e) ≡ ltb (t * down e) (m * up e)
+compared : (t m : ℕ) (e : ℤ) (x : Float) → HasValue x false t 1
+    → lt x (fin false m e) ≡ ltb (t * down e) (m * up e)
 unfolding lt
 compared t m e nan v = absurd v
 compared t m e (inf s) v = absurd v
 compared t m e (fin true n d) v = absurd (true≢false (v .0))
 compared t m e (fin false n d) v = scaled t (down e) (m * up e) (n * up d) (down d) (down-pos d) (v .1)
 
-of-whole : (t m : ℕ) (e : ℤ) → t < 2 ^ 32 → lt (ofInt binary64 (pos t)) (fin false m e) ≡ ltb (t * down e) (m * up e)
+of-whole : (t m : ℕ) (e : ℤ) → t < 2 ^ 32
+    → lt (ofInt binary64 (pos t)) (fin false m e) ≡ ltb (t * down e) (m * up e)
 unfolding ofInt
 of-whole t m e h = compared t m e (round binary64 false t 1) (round-whole binary64 false t (omega arith))
 
 -- ---- x where it is above 0 and below 2 ^ 32, with its whole part t
 abbrev Law : Float → Type 0
-Law x = (t : ℕ) → t ≡ toUnsigned 64 x → (t < 2 ^ 32) × (lt (ofInt binary64 (pos t)) x ≡ true → min (t + 1) 4294967295 ≡ ceiling 32 x) × (lt (ofInt binary64 (pos t)) x ≡ false → t ≡ ceiling 32 x)
+Law x =
+    (t : ℕ) → t ≡ toUnsigned 64 x → (t < 2 ^ 32) × (lt (ofInt binary64 (pos t)) x ≡ true → min (t + 1) 4294967295 ≡ ceiling 32 x) × (lt (ofInt binary64 (pos t)) x ≡ false → t ≡ ceiling 32 x)
 
 law-fin : (m : ℕ) (e : ℤ) → m * up e < 2 ^ 32 * down e → Law (fin false m e)
 unfolding toUnsigned ceiling
@@ -100,7 +106,8 @@ law-fin m e l t is =
     top : (t : ℕ) → t < 2 ^ 32 → t ≡ min t 4294967295
     top t h = omega arith
 
-law : (x : Float) → lt (fin false 0 (pos 0)) x ≡ true → lt x (fin false 1 (pos 32)) ≡ true → Law x × (T (lt (fin true 1 (pos 0)) x) × T (lt x (fin false 1 (pos 64)))) × T (not (isNan x))
+law : (x : Float) → lt (fin false 0 (pos 0)) x ≡ true → lt x (fin false 1 (pos 32)) ≡ true
+    → Law x × (T (lt (fin true 1 (pos 0)) x) × T (lt x (fin false 1 (pos 64)))) × T (not (isNan x))
 unfolding lt isNan
 law nan h k = absurd (false≢true h)
 law (inf true) h k = absurd (false≢true h)
@@ -110,13 +117,15 @@ law (fin false m e) h k =
     let l : m * up e < 2 ^ 32 * down e = omega (arith, ltb-true (m * up e * 1) (1 * 2 ^ 32 * down e) k) in
     (law-fin m e l, (lt→ltb 0 (1 * 1 * down e + m * up e * 1) (omega (arith, down-pos e)), lt→ltb (m * up e * 1) (1 * 2 ^ 64 * down e) (omega arith)), tt)
 
-over : (x : Float) → lt (fin false 0 (pos 0)) x ≡ true → lt x (fin false 1 (pos 32)) ≡ false → _≡_ {A = ℕ} 4294967295 (ceiling 32 x)
+over : (x : Float) → lt (fin false 0 (pos 0)) x ≡ true → lt x (fin false 1 (pos 32)) ≡ false
+    → _≡_ {A = ℕ} 4294967295 (ceiling 32 x)
 unfolding lt ceiling
 over nan h k = absurd (false≢true h)
 over (inf true) h k = absurd (false≢true h)
 over (inf false) h k = refl
 over (fin true m e) h k = absurd (false≢true h)
-over (fin false m e) h k = capped (m * up e) (down e) (down-pos e) (omega (arith, ltb-false (m * up e * 1) (1 * 2 ^ 32 * down e) k))
+over (fin false m e) h k =
+    capped (m * up e) (down e) (down-pos e) (omega (arith, ltb-false (m * up e * 1) (1 * 2 ^ 32 * down e) k))
 
 not-above : (x : Float) → lt (fin false 0 (pos 0)) x ≡ false → _≡_ {A = ℕ} 0 (ceiling 32 x)
 unfolding lt ceiling
@@ -124,10 +133,13 @@ not-above nan h = refl
 not-above (inf true) h = refl
 not-above (inf false) h = absurd (true≢false h)
 not-above (fin true m e) h = refl
-not-above (fin false m e) h = none (m * up e) (down e) (down-pos e) (omega (arith, ltb-false (0 * 1 * down e) (m * up e * 1) h))
+not-above (fin false m e) h =
+    none (m * up e) (down e) (down-pos e) (omega (arith, ltb-false (0 * 1 * down e) (m * up e * 1) h))
 
 -- ---- the answers
-at-call : (c : tie.After-truncating-f32-to-u64) → let x = c .before .before .before .args .x in Law x × (T (lt (fin true 1 (pos 0)) x) × T (lt x (fin false 1 (pos 64)))) × T (not (isNan x))
+at-call : (c : tie.After-truncating-f32-to-u64)
+    → let x = c .before .before .before .args .x in
+    Law x × (T (lt (fin true 1 (pos 0)) x) × T (lt x (fin false 1 (pos 64)))) × T (not (isNan x))
 unfolding ofBits
 at-call c = law (c .before .before .before .args .x) (c .before .before .if1 .taken) (c .before .if2 .taken)
 
@@ -146,7 +158,8 @@ float-to-float-if3 : tie.Need-float-to-float-if3
 float-to-float-if3 c =
     let d = c .before .before in
     let x = d .before .before .before .args .x in
-    and-i (fits binary64 x) (not (isNan x)) (fits-widens x (subst T (sym (d .before .before .before .good .0 .1)) tt)) (at-call d .2)
+    and-i (fits binary64 x) (not (isNan x))
+    (fits-widens x (subst T (sym (d .before .before .before .good .0 .1)) tt)) (at-call d .2)
 
 add-result : tie.Need-add-result
 add-result c = search needs

@@ -12,7 +12,9 @@ use Rattle.float.proofs.convert.narrow_fields.Statement.{statement}
 use Rattle.float.proofs.convert.narrow_fields.Tie as tie
 
 returns : tie.Need-returns
-returns c = let a = c .before .args in (omega arith, λ s. bits-zero s (a .e) (a .t) (c .if1 .taken) (c .before .pre .1))
+returns c =
+    let a = c .before .args in
+    (omega arith, λ s. bits-zero s (a .e) (a .t) (c .if1 .taken) (c .before .pre .1))
 
 add-shift-right-nearest : tie.Need-add-shift-right-nearest
 add-shift-right-nearest c = search needs
@@ -48,7 +50,9 @@ law : (c : tie.After-shift-right-nearest2) → (s : Bool) → let a = c .before 
 law c s =
     let s0 = c .before .before .before in
     let a = s0 .args in
-    bits-normal s (a .e) (a .t) (c .before .if2 .left) (s0 .pre .0) (s0 .pre .2) (s0 .pre .1) ∙ ap (λ (y : ℕ). cond s 0x8000_0000 0 + min ((a .e - 897) * 0x80_0000 + y) 0x7f80_0000) (sym (c .shift-right-nearest2 .ensures))
+    bits-normal s (a .e) (a .t) (c .before .if2 .left) (s0 .pre .0) (s0 .pre .2) (s0 .pre .1)
+    ∙ ap (λ (y : ℕ). cond s 0x8000_0000 0 + min ((a .e - 897) * 0x80_0000 + y) 0x7f80_0000)
+    (sym (c .shift-right-nearest2 .ensures))
 
 add-p : tie.Need-add-p
 add-p c =

@@ -26,7 +26,9 @@ module _ (v h : ℕ) (l : h < 63) where
   rest-lt = mod-lt v (pow-pos h)
 
 quotient : (v h : ℕ) → v < 2 ^ 64 → 1 ≤ h → v / 2 ^ h < 2 ^ 63
-quotient v h b l = div-lt-iff-lt-mul (pow-pos h) .1 (lt-of-lt-of-le b (le-trans (pow-mono {i = 64} {j = 63 + h} (omega arith)) (le-of-eq (pow-add 2 63 h))))
+quotient v h b l =
+    div-lt-iff-lt-mul (pow-pos h) .1
+    (lt-of-lt-of-le b (le-trans (pow-mono {i = 64} {j = 63 + h} (omega arith)) (le-of-eq (pow-add 2 63 h))))
 
 shl-u : tie.Need-shl-u
 shl-u c = search needs
@@ -38,31 +40,42 @@ sub-r : tie.Need-sub-r
 sub-r c = omega (arith, unit (c .args .v) (c .args .h) (c .pre .1), pow-pos (c .args .h))
 
 mul-r : tie.Need-mul-r
-mul-r c = let l = c .pre .1 in omega (arith, rest (c .args .v) (c .args .h) l, rest-lt (c .args .v) (c .args .h) l, small (c .args .v) (c .args .h) l)
+mul-r c =
+    let l = c .pre .1 in
+    omega
+    (arith, rest (c .args .v) (c .args .h) l, rest-lt (c .args .v) (c .args .h) l, small (c .args .v) (c .args .h) l)
 
 returns : tie.Need-returns
 returns c =
     let a = c .before .args in
     let l = c .before .pre .1 in
-    sym (by-compare (a .v % 2 ^ a .h * 2) (2 ^ a .h) (a .v / 2 ^ a .h) .0 (omega (arith, rest (a .v) (a .h) l, unit (a .v) (a .h) l, c .if1 .taken)))
+    sym
+    (by-compare (a .v % 2 ^ a .h * 2) (2 ^ a .h) (a .v / 2 ^ a .h) .0 (omega (arith, rest (a .v) (a .h) l, unit (a .v) (a .h) l, c .if1 .taken)))
 
 add-result : tie.Need-add-result
-add-result c = let a = c .before .before .args in omega (arith, quotient (a .v) (a .h) (c .before .before .fits .v .fits) (c .before .before .pre .0))
+add-result c =
+    let a = c .before .before .args in
+    omega (arith, quotient (a .v) (a .h) (c .before .before .fits .v .fits) (c .before .before .pre .0))
 
 returns-2 : tie.Need-returns-2
 returns-2 c =
     let a = c .before .before .args in
     let l = c .before .before .pre .1 in
-    add-one (a .v / 2 ^ a .h) ∙ sym (by-compare (a .v % 2 ^ a .h * 2) (2 ^ a .h) (a .v / 2 ^ a .h) .1 (omega (arith, rest (a .v) (a .h) l, unit (a .v) (a .h) l, c .if2 .taken)))
+    add-one (a .v / 2 ^ a .h)
+    ∙ sym
+    (by-compare (a .v % 2 ^ a .h * 2) (2 ^ a .h) (a .v / 2 ^ a .h) .1 (omega (arith, rest (a .v) (a .h) l, unit (a .v) (a .h) l, c .if2 .taken)))
 
 add-result-2 : tie.Need-add-result-2
-add-result-2 c = let a = c .before .before .args in omega (arith, quotient (a .v) (a .h) (c .before .before .fits .v .fits) (c .before .before .pre .0))
+add-result-2 c =
+    let a = c .before .before .args in
+    omega (arith, quotient (a .v) (a .h) (c .before .before .fits .v .fits) (c .before .before .pre .0))
 
 returns-3 : tie.Need-returns-3
 returns-3 c =
     let a = c .before .before .args in
     let l = c .before .before .pre .1 in
-    sym (by-compare (a .v % 2 ^ a .h * 2) (2 ^ a .h) (a .v / 2 ^ a .h) .2 (omega (arith, rest (a .v) (a .h) l, unit (a .v) (a .h) l, c .if2 .left, c .before .if1 .left)))
+    sym
+    (by-compare (a .v % 2 ^ a .h * 2) (2 ^ a .h) (a .v / 2 ^ a .h) .2 (omega (arith, rest (a .v) (a .h) l, unit (a .v) (a .h) l, c .if2 .left, c .before .if1 .left)))
 
 pub shift-right-nearest-spec : {M : Type 1} → statement M
 shift-right-nearest-spec =

@@ -23,9 +23,11 @@ abbrev μ-loop : tie.MeasureT-loop
 μ-loop s v₀ i₀ v i = length s - i
 
 -- a text of a length that is allowed
-of-length : (s : List ℕ) → 1 ≤ length s → length s ≤ 16 → (allHex s ≡ true → readHex s ≡ Value (hexValue s)) × (allHex s ≡ false → readHex s ≡ Malformed)
+of-length : (s : List ℕ) → 1 ≤ length s → length s ≤ 16
+    → (allHex s ≡ true → readHex s ≡ Value (hexValue s)) × (allHex s ≡ false → readHex s ≡ Malformed)
 unfolding readHex
-of-length s h l = ((λ e. simp (le-leb 1 (length s) h, le-leb (length s) 16 l, e)), (λ e. simp (le-leb 1 (length s) h, le-leb (length s) 16 l, e)))
+of-length s h l =
+    ((λ e. simp (le-leb 1 (length s) h, le-leb (length s) 16 l, e)), (λ e. simp (le-leb 1 (length s) h, le-leb (length s) 16 l, e)))
 
 returns : tie.Need-returns Inv-loop μ-loop
 unfolding readHex
@@ -33,7 +35,9 @@ returns c = simp (lt-leb 1 (length (c .before .before .args .s .now)) (omega ari
 
 returns-2 : tie.Need-returns-2 Inv-loop μ-loop
 unfolding readHex
-returns-2 c = let s = c .before .before .before .args .s .now in simp (le-leb 1 (length s) (omega arith), lt-leb (length s) 16 (omega arith))
+returns-2 c =
+    let s = c .before .before .before .args .s .now in
+    simp (le-leb 1 (length s) (omega arith), lt-leb (length s) 16 (omega arith))
 
 loop-holds : tie.Need-loop-holds Inv-loop μ-loop
 loop-holds c = (omega arith, omega arith, omega arith, refl)
@@ -51,13 +55,18 @@ returns-3 c =
     let i = l .loop .i in
     let d = digitValue (getD s i 0) in
     let t : ltb d 16 ≡ false = le-ltb d 16 (omega (arith, c .before .digit-value .ensures)) in
-    sym (of-length s (omega arith) (omega arith) .1 (sym (l .loop .inv .3) ∙ allHex-drop s i (omega arith) ∙ ap (λ (b : Bool). b && allHex (drop (i + 1) s)) t))
+    sym
+    (of-length s (omega arith) (omega arith) .1 (sym (l .loop .inv .3) ∙ allHex-drop s i (omega arith) ∙ ap (λ (b : Bool). b && allHex (drop (i + 1) s)) t))
 
 mul-v : tie.Need-mul-v Inv-loop μ-loop
-mul-v c = let l = c .before .before .before .before in omega (arith, lt-16-digits (l .loop .v) (l .loop .i) (l .loop .inv .1) (omega arith))
+mul-v c =
+    let l = c .before .before .before .before in
+    omega (arith, lt-16-digits (l .loop .v) (l .loop .i) (l .loop .inv .1) (omega arith))
 
 add-v : tie.Need-add-v Inv-loop μ-loop
-add-v c = let l = c .before .before .before .before in omega (arith, lt-16-digits (l .loop .v) (l .loop .i) (l .loop .inv .1) (omega arith))
+add-v c =
+    let l = c .before .before .before .before in
+    omega (arith, lt-16-digits (l .loop .v) (l .loop .i) (l .loop .inv .1) (omega arith))
 
 add-i : tie.Need-add-i Inv-loop μ-loop
 add-i c = search needs
@@ -86,7 +95,8 @@ returns-4 c =
     let l = c .before in
     let s = l .before .before .before .before .args .s .now in
     let z : drop (l .loop .i) s ≡ [] = drop-of-length-le s {i = l .loop .i} (omega arith) in
-    let e : l .loop .v * 16 ^ 0 + 0 ≡ hexValue s = ap (λ (x : List ℕ). l .loop .v * 16 ^ length x + hexValue x) (sym z) ∙ l .loop .inv .2 in
+    let e : l .loop .v * 16 ^ 0 + 0 ≡ hexValue s =
+    ap (λ (x : List ℕ). l .loop .v * 16 ^ length x + hexValue x) (sym z) ∙ l .loop .inv .2 in
     let w : l .loop .v ≡ hexValue s = omega arith in
     ap Value w ∙ sym (of-length s (omega arith) (omega arith) .0 (sym (l .loop .inv .3) ∙ ap allHex z))
 

@@ -61,7 +61,9 @@ returns c =
     let z : l .loop .i ≡ 0 = omega arith in
     let n = length (l .before .before .args .out .now) in
     let m : n - l .loop .i ≡ n = omega arith in
-    sym (ap (λ (x : ℕ). drop x (l .loop .out)) z) ∙ l .loop .inv .2 ∙ ap (λ (x : ℕ). hexOf x (l .before .before .args .v)) m
+    sym (ap (λ (x : ℕ). drop x (l .loop .out)) z)
+    ∙ l .loop .inv .2
+    ∙ ap (λ (x : ℕ). hexOf x (l .before .before .args .v)) m
 
 pub write-hex-spec : {M : Type 1} → statement M
 write-hex-spec =

@@ -20,12 +20,16 @@ module _ (d b : ℕ) where
   apart D h = omega (arith, eqb-true (1 * 1 * d) 0 (and-true (eqb (1 * 1 * d) b) (eqb (1 * 1 * d) 0) h .1))
 
   apart′ : 0 < d → (eqb b (1 * 1 * d) && (false || eqb b 0)) ≡ true → ⊥
-  apart′ D h = let t = and-true (eqb b (1 * 1 * d)) (eqb b 0) h in omega (arith, eqb-true b (1 * 1 * d) (t .0), eqb-true b 0 (t .1))
+  apart′ D h =
+      let t = and-true (eqb b (1 * 1 * d)) (eqb b 0) h in
+      omega (arith, eqb-true b (1 * 1 * d) (t .0), eqb-true b 0 (t .1))
 
-  reached : (u : Bool) → (u ≡ true → 1 * 1 * d ≡ b) → (ltb (1 * 1 * d) b || (u && true)) ≡ true → true ≡ leb d b
+  reached : (u : Bool) → (u ≡ true → 1 * 1 * d ≡ b) → (ltb (1 * 1 * d) b || (u && true)) ≡ true
+      → true ≡ leb d b
   reached u e h = sym (le-leb d b (omega (arith, or-le (1 * 1 * d) b u true e h)))
 
-  missed : (u : Bool) → (1 * 1 * d ≡ b → u ≡ true) → (ltb (1 * 1 * d) b || (u && true)) ≡ false → false ≡ leb d b
+  missed : (u : Bool) → (1 * 1 * d ≡ b → u ≡ true) → (ltb (1 * 1 * d) b || (u && true)) ≡ false
+      → false ≡ leb d b
   missed u e h = sym (lt-leb d b (omega (arith, or-gt (1 * 1 * d) b u e h)))
 
 positive : (x : Float) → le (fin false 1 (negsuc 1021)) x ≡ true → lt x (inf false) ≡ isNormal binary64 x
@@ -34,7 +38,9 @@ positive nan h = refl
 positive (inf true) h = absurd (false≢true h)
 positive (inf false) h = refl
 positive (fin true m e) h = absurd (apart (down e) (m * up e * 2 ^ 1022) (down-pos e) h)
-positive (fin false m e) h = reached (down e) (m * up e * 2 ^ 1022) (eqb (1 * 1 * down e) (m * up e * 2 ^ 1022)) (eqb-true (1 * 1 * down e) (m * up e * 2 ^ 1022)) h
+positive (fin false m e) h =
+    reached (down e) (m * up e * 2 ^ 1022) (eqb (1 * 1 * down e) (m * up e * 2 ^ 1022))
+    (eqb-true (1 * 1 * down e) (m * up e * 2 ^ 1022)) h
 
 negative : (x : Float) → le x (fin true 1 (negsuc 1021)) ≡ true → lt (inf true) x ≡ isNormal binary64 x
 unfolding lt le isNormal
@@ -42,14 +48,21 @@ negative nan h = refl
 negative (inf true) h = refl
 negative (inf false) h = absurd (false≢true h)
 negative (fin false m e) h = absurd (apart′ (down e) (m * up e * 2 ^ 1022) (down-pos e) h)
-negative (fin true m e) h = reached (down e) (m * up e * 2 ^ 1022) (eqb (m * up e * 2 ^ 1022) (1 * 1 * down e)) (λ t. sym (eqb-true (m * up e * 2 ^ 1022) (1 * 1 * down e) t)) h
+negative (fin true m e) h =
+    reached (down e) (m * up e * 2 ^ 1022) (eqb (m * up e * 2 ^ 1022) (1 * 1 * down e))
+    (λ t. sym (eqb-true (m * up e * 2 ^ 1022) (1 * 1 * down e) t)) h
 
-neither : (x : Float) → le (fin false 1 (negsuc 1021)) x ≡ false → le x (fin true 1 (negsuc 1021)) ≡ false → false ≡ isNormal binary64 x
+neither : (x : Float) → le (fin false 1 (negsuc 1021)) x ≡ false → le x (fin true 1 (negsuc 1021)) ≡ false
+    → false ≡ isNormal binary64 x
 unfolding lt le isNormal
 neither nan h k = refl
 neither (inf s) h k = refl
-neither (fin false m e) h k = missed (down e) (m * up e * 2 ^ 1022) (eqb (1 * 1 * down e) (m * up e * 2 ^ 1022)) (eq-eqb (1 * 1 * down e) (m * up e * 2 ^ 1022)) h
-neither (fin true m e) h k = missed (down e) (m * up e * 2 ^ 1022) (eqb (m * up e * 2 ^ 1022) (1 * 1 * down e)) (λ t. eq-eqb (m * up e * 2 ^ 1022) (1 * 1 * down e) (sym t)) k
+neither (fin false m e) h k =
+    missed (down e) (m * up e * 2 ^ 1022) (eqb (1 * 1 * down e) (m * up e * 2 ^ 1022))
+    (eq-eqb (1 * 1 * down e) (m * up e * 2 ^ 1022)) h
+neither (fin true m e) h k =
+    missed (down e) (m * up e * 2 ^ 1022) (eqb (m * up e * 2 ^ 1022) (1 * 1 * down e))
+    (λ t. eq-eqb (m * up e * 2 ^ 1022) (1 * 1 * down e) (sym t)) k
 
 returns : tie.Need-returns
 unfolding div ofBits

@@ -12,7 +12,9 @@ canonical64-requires c κs = search needs
 
 returns : tie.Need-returns
 unfolding minimum isNan
-returns c = let a = c .before .before .args in c .canonical64 .ensures ∙ ap (λ (x : Float). minimum x (a .b)) (sym (is-nan (a .a) (c .before .if1 .taken)))
+returns c =
+    let a = c .before .before .args in
+    c .canonical64 .ensures ∙ ap (λ (x : Float). minimum x (a .b)) (sym (is-nan (a .a) (c .before .if1 .taken)))
 
 returns-2 : tie.Need-returns-2
 unfolding minimum

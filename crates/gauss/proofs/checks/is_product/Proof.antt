@@ -38,7 +38,8 @@ returns-2 c =
 returns-3 : tie.Need-returns-3
 returns-3 c =
     let l = c .before .before in
-    sym (ne-eqb (l .args .len) (l .args .a * l .args .b) (λ e. c .if2 .left (rw e (mul-mod-right (l .args .a) (l .args .b)))))
+    sym
+    (ne-eqb (l .args .len) (l .args .a * l .args .b) (λ e. c .if2 .left (rw e (mul-mod-right (l .args .a) (l .args .b)))))
 
 pub is-product-spec : {M : Type 1} → statement M
 is-product-spec = tie.close (tie.spec returns rem-if2 div-result returns-2 returns-3)

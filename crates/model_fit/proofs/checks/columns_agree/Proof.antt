@@ -31,7 +31,9 @@ unfolding columnsAgree
 returns c =
     let a = c .before .before .before .before .args in
     let e : lengthsAgree (a .rows) (a .labels ∷ a .qs ∷ a .observed ∷ []) ≡ false =
-    sym (three (a .rows) (a .labels) (a .qs) (a .observed)) ∙ sym (c .before .same-lengths .ensures) ∙ not-true _ (c .if1 .taken) in
+    sym (three (a .rows) (a .labels) (a .qs) (a .observed))
+    ∙ sym (c .before .same-lengths .ensures)
+    ∙ not-true _ (c .if1 .taken) in
     rw (c .before .before .enum-told .given .1, e)
 
 enum-told-2 : tie.Need-enum-told-2
@@ -45,7 +47,9 @@ unfolding columnsAgree
 returns-2 c =
     let a = c .before .before .before .before .args in
     let e : lengthsAgree (a .rows) (a .labels ∷ a .qs ∷ a .observed ∷ []) ≡ true =
-    sym (three (a .rows) (a .labels) (a .qs) (a .observed)) ∙ sym (c .before .same-lengths .ensures) ∙ not-false _ (c .if1 .left) in
+    sym (three (a .rows) (a .labels) (a .qs) (a .observed))
+    ∙ sym (c .before .same-lengths .ensures)
+    ∙ not-false _ (c .if1 .left) in
     rw (c .before .before .enum-told .given .1, e, one (a .peptides) (a .logs))
 
 returns-3 : tie.Need-returns-3

@@ -21,6 +21,7 @@ use Rattle.regression.specs.Regression.{Sample, normal, sumsOf, plusTarget}
 use Rattle.regression.specs.Workspace.{Workspace, holding}
 use Rattle.regression.specs.declared.Sums.{Sums}
 use Rattle.regression.proofs.Laws.{sums-nil, sums-snoc}
+use Rattle.regression.proofs.Workspace.{length-holding}
 use Rattle.model_fit.specs.Input.{Input, inputOf, inputAt}
 use Rattle.model_fit.specs.Samples.{sampleFrom}
 use Rattle.model_fit.specs.Shared.{Listed, Checked, Summed}
@@ -58,7 +59,9 @@ passed s =
 -- the workspace keeps its length
 still : (s : tie.Start Inv-loop μ-loop) (cells : List Float) → length cells ≡ length (now (s .args .workspace))
     → Workspace (orderOf (s .args .model)) cells
-still s cells e = record { order = s .pre .1 .0 .order; count = e ∙ s .pre .1 .0 .count }
+still s cells e =
+    let D : ℕ = orderOf (s .args .model) in
+    record { order = order-max (s .args .model); count = e ∙ ap length (s .pre .1) ∙ length-holding D [] }
 
 -- a turn's row is one of the rows
 inside : (t : tie.In-loop Inv-loop μ-loop) → t .before .loop .i < length (now (start (t .before) .args .peptide))
@@ -139,7 +142,7 @@ loop-holds : tie.Need-loop-holds Inv-loop μ-loop
 unfolding kept
 loop-holds c =
     let s = c .before .before .before .before .before .before .before .before .before .before in
-    (search needs, s .pre .1 .1, c .zero .ensures ∙ sym sums-nil, refl, refl, refl)
+    (search needs, s .pre .1, c .zero .ensures ∙ sym sums-nil, refl, refl, refl)
 
 trains-at-requires : tie.Need-trains-at-requires Inv-loop μ-loop
 trains-at-requires c κs =
@@ -238,7 +241,8 @@ loop-again-2 c =
     let kept = added .add-sample .kept .1 .1 .1 .1 .1 .1 .1 in
     let step =
     one-more model i (k m) _ (not (l .held)) _ _ (l .sums) (c .add .result) (s m .pre .0) (inside (turn m))
-    (trained m) (sample-is m) (added .add-sample .ensures (seen model i (k m)) (l .inv .1)) (l .inv .2) (c .add .ensures) in (
+    (trained m) (sample-is m) (added .add-sample .ensures (seen model i (k m)) (l .inv .1)) (l .inv .2)
+    (c .add .ensures) in (
       omega (arith, inside (turn m)),
       step .0,
       step .1,

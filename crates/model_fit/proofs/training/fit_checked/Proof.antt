@@ -10,7 +10,7 @@ use lib.ListN.{length}
 use borrow.Author.Needs.{needs}
 use Rattle.embedding.specs.Design.{orderOf}
 use Rattle.regression.specs.Regression.{Sample, normal}
-use Rattle.regression.specs.Workspace.{Workspace, FitSlices, holding}
+use Rattle.regression.specs.Workspace.{FitSlices, holding}
 use Rattle.regression.specs.declared.Sums.{Sums}
 use Rattle.regression.proofs.Workspace.{cleared-holds}
 use Rattle.model_fit.specs.Input.{inputAt}
@@ -60,13 +60,7 @@ accumulate-requires : tie.Need-accumulate-requires
 accumulate-requires c κs =
     let z = c .before .before .before in
     let s = start z in
-    let room = s .pre .1 .0 in (
-      s .pre .0,
-      (
-        record { order = room .order; count = z .clear .kept .0 ∙ room .count },
-        z .clear .ensures ∙ cleared-holds (order s) (now (s .args .workspace)) (room .count),
-      ),
-    )
+    (s .pre .0, z .clear .ensures ∙ cleared-holds (order s) (now (s .args .workspace)) (s .pre .1 .0 .count))
 
 same-length : tie.Need-same-length
 same-length c = search needs

@@ -101,7 +101,8 @@ one-more : (model : Model) (i : Input) (beta : List Float) (k : ℕ) (x y before
     → add binary64 before (mul binary64 (sub binary64 x y) (sub binary64 x y)) ≡ sseOf beta (seen model i (k + 1))
 one-more model i beta k x y before checked h t ey ex eb =
     let ss : List Sample = seen model i k in
-    let n : seen model i (k + 1) ≡ ss ++ sampleAt model i k ∷ [] = rw (add-one k) (seen-trains model i checked k h t) in
+    let n : seen model i (k + 1) ≡ ss ++ sampleAt model i k ∷ [] =
+    rw (add-one k) (seen-trains model i checked k h t) in
     rw (ex, ey, eb) (sym (sse-snoc beta ss (sampleAt model i k)) ∙ ap (sseOf beta) (sym n))
 
 loop-holds : tie.Need-loop-holds Inv-loop μ-loop

@@ -29,7 +29,9 @@ trains-requires c κs = search needs
 returns : tie.Need-returns
 returns c =
     let a = c .before .before .before .before .args in
-    c .trains .ensures ∙ ap (λ (z : ℤ). trains z (getD (now (a .q)) (a .i) nan)) (toZ-ofZ w32 (getD (now (a .label)) (a .i) (pos 0)) (sfits-of (c .before .before .trains-arg .given)))
+    c .trains .ensures
+    ∙ ap (λ (z : ℤ). trains z (getD (now (a .q)) (a .i) nan))
+    (toZ-ofZ w32 (getD (now (a .label)) (a .i) (pos 0)) (sfits-of (c .before .before .trains-arg .given)))
 
 pub trains-at-spec : {M : Type 1} → statement M
 trains-at-spec =

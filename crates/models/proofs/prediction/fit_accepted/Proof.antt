@@ -1,6 +1,5 @@
 -- `models::prediction::fit_accepted` meets its contract: the slices' first cells are lent and come back.
 use mathlib.Core.Path.{_≡_, ap, _∙_}
-use mathlib.Core.List.{List}
 use Prim.Native.Nat.{ℕ, _≤_}
 use native.Mathlib.Omega.{arith}
 use denote.Ref.{now}

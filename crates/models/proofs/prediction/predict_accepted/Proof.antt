@@ -2,16 +2,15 @@
 use mathlib.Core.Path.{_≡_, sym, _∙_}
 use mathlib.Core.Bool.{true, false}
 use mathlib.Core.List.{List}
-use Prim.Native.Nat.{ℕ, _≤_}
+use Prim.Native.Nat.{_≤_}
 use native.Mathlib.Omega.{arith}
 use denote.Ref.{now}
 use lib.Ieee.{Float}
 use lib.ListN.{length, length-take}
-use Rattle.embedding.specs.Design.{orderOf}
 use Rattle.regression.specs.declared.FitOutcome.{FitOutcome}
 use Rattle.model_fit.specs.Input.{Input, inputAt}
 use Rattle.models.specs.Prediction.{isSolved}
-use Rattle.models.specs.Call.{PredictSlices, predictAt, fitPart}
+use Rattle.models.specs.Call.{PredictSlices, predictAt}
 use Rattle.models.proofs.Calls.{Room, room, PredictRoom, predict-room, predicted-within}
 use Rattle.models.proofs.Calls.{solved-predictions, solved-errors, unsolved-predictions, unsolved-errors}
 use borrow.Author.Needs.{needs}

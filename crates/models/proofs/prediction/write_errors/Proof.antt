@@ -2,7 +2,7 @@
 -- first i rows, and the others are as they were.
 use mathlib.Core.Path.{_≡_, refl, _∙_}
 use mathlib.Core.List.{List, _++_, zipWith}
-use Prim.Native.Nat.{_+_, _-_, _≤_, _<_}
+use Prim.Native.Nat.{_-_, _≤_, _<_}
 use native.Mathlib.Omega.{arith}
 use denote.Ref.{now}
 use lib.Ieee.{Float, nan}
@@ -21,6 +21,21 @@ Inv-loop observed predicted error₀ i₀ i-end error i =
 
 abbrev μ-loop : tie.MeasureT-loop
 μ-loop observed predicted error₀ i₀ i-end error i = length observed - i
+
+-- where the function begins, and what it is to write
+module _ (at : tie.At-loop Inv-loop μ-loop) where
+  abbrev s : tie.Start Inv-loop μ-loop
+  s = at .before .before .before .before
+
+  abbrev new : List Float
+  new = zipWith errorOf (now (s .args .observed)) (now (s .args .predicted))
+
+  long : length new ≡ length (now (s .args .observed))
+  long = length-zipWith errorOf (now (s .args .observed)) (now (s .args .predicted)) (s .pre .0)
+
+-- the turn of an error that is known
+abbrev turn : tie.After-error-of Inv-loop μ-loop → tie.In-loop Inv-loop μ-loop
+turn c = c .before .before .before
 
 loop-holds : tie.Need-loop-holds Inv-loop μ-loop
 loop-holds c = (search needs, refl, refl)
@@ -44,7 +59,9 @@ mul-error : tie.Need-mul-error Inv-loop μ-loop
 mul-error c = search needs
 
 slice-write-error : tie.Need-slice-write-error Inv-loop μ-loop
-slice-write-error c = omega (arith, c .before .before .before .before .loop .inv .2, c .before .before .before .loop-test .taken, c .before .before .before .before .before .before .before .before .pre .1)
+slice-write-error c =
+    let t = turn c in
+    omega (arith, t .before .loop .inv .2, t .loop-test .taken, s (t .before) .pre .1)
 
 add-i : tie.Need-add-i Inv-loop μ-loop
 add-i c = search needs
@@ -54,30 +71,32 @@ loop-less c = search needs
 
 loop-again : tie.Need-loop-again Inv-loop μ-loop
 loop-again c =
-    let a = c .before .before .before .before .before .before .before .before .args in
-    let l = c .before .before .before .before .loop in
-    let observed : List Float = now (a .observed) in
-    let predicted : List Float = now (a .predicted) in
-    let t : l .i < length observed = c .before .before .before .loop-test .taken in
-    let p : length observed ≤ length predicted = c .before .before .before .before .before .before .before .before .pre .0 in
-    let e : length observed ≤ length (now (a .error)) = c .before .before .before .before .before .before .before .before .pre .1 in
-    let n : length (zipWith errorOf observed predicted) ≡ length observed = length-zipWith errorOf observed predicted p in
-    let v = error-at observed predicted (l .i) (c .error-of .result) t (omega arith) (c .error-of .ensures) in
-    (omega arith, write-next (zipWith errorOf observed predicted) (now (a .error)) (l .error) (l .i) (c .error-of .result) nan (omega arith) (omega arith) (l .inv .1) v, simp length-set (l .inv .2))
+    let at = turn c .before in
+    let a = s at .args in
+    let l = at .loop in
+    let t : l .i < length (now (a .observed)) = turn c .loop-test .taken in
+    let p : length (now (a .observed)) ≤ length (now (a .predicted)) = s at .pre .0 in
+    let e : length (now (a .observed)) ≤ length (now (a .error)) = s at .pre .1 in
+    let n = long at in
+    let v =
+    error-at (now (a .observed)) (now (a .predicted)) (l .i) (c .error-of .result) t (omega arith)
+    (c .error-of .ensures) in (
+      omega arith,
+      write-next (new at) (now (a .error)) (l .error) (l .i) (c .error-of .result) nan (omega arith) (omega arith)
+          (l .inv .1) v,
+      simp length-set (l .inv .2),
+    )
 
 same-length : tie.Need-same-length Inv-loop μ-loop
 same-length c = c .before .loop .inv .2
 
 returns : tie.Need-returns Inv-loop μ-loop
 returns c =
-    let a = c .before .before .before .before .before .args in
-    let l = c .before .loop in
-    let observed : List Float = now (a .observed) in
-    let predicted : List Float = now (a .predicted) in
-    let t : length observed ≤ l .i = c .loop-test .left in
-    let n : length (zipWith errorOf observed predicted) ≡ length observed = length-zipWith errorOf observed predicted (c .before .before .before .before .before .pre .0) in
-    let i : l .i ≤ length observed = l .inv .0 in
-    l .inv .1 ∙ overwrite-all (zipWith errorOf observed predicted) (now (a .error)) (l .i) (omega arith)
+    let at = c .before in
+    let l = at .loop in
+    let n = long at in
+    l .inv .1
+    ∙ overwrite-all (new at) (now (s at .args .error)) (l .i) (omega (arith, l .inv .0, c .loop-test .left))
 
 pub write-errors-spec : {M : Type 1} → statement M
 write-errors-spec =

@@ -20,7 +20,9 @@ unfolding smaller
 returns c =
     let s = c .before .before in
     let a = s .args in
-    ap decode (c .widen .ensures) ∙ decode-time (a .t) (subst T (sym (s .good .1 .0 .1)) tt) ∙ sym (ap (λ (o : Option Float). smaller o (a .t)) (decode-absent (a .cell) (c .before .if1 .taken)))
+    ap decode (c .widen .ensures)
+    ∙ decode-time (a .t) (subst T (sym (s .good .1 .0 .1)) tt)
+    ∙ sym (ap (λ (o : Option Float). smaller o (a .t)) (decode-absent (a .cell) (c .before .if1 .taken)))
 
 widen-requires-2 : tie.Need-widen-requires-2
 widen-requires-2 c κs = search needs

@@ -19,7 +19,8 @@ abbrev Inv-loop : tie.InvT-loop
 Inv-loop file rt max₀ i₀ max i =
     (i ≤ length file)
     × (length max ≡ length max₀)
-    × ((ps : List ℕ) → length ps ≡ length file → (f : ℕ) → f < length max₀ → Prim.Native.Nat.max (getD max f 0) (maxRt f (rowsFrom file ps rt i)) ≡ maxRt f (observations file ps rt))
+    ×
+    ((ps : List ℕ) → length ps ≡ length file → (f : ℕ) → f < length max₀ → Prim.Native.Nat.max (getD max f 0) (maxRt f (rowsFrom file ps rt i)) ≡ maxRt f (observations file ps rt))
 
 abbrev μ-loop : tie.MeasureT-loop
 μ-loop file rt max₀ i₀ max i = length file - i
@@ -29,8 +30,12 @@ abbrev start : tie.At-loop Inv-loop μ-loop → tie.Start Inv-loop μ-loop
 start at = at .before .before .before .before
 
 -- a row's file is one of the files
-file-below : (at : tie.At-loop Inv-loop μ-loop) → at .loop .i < length (now (start at .args .file)) → getD (now (start at .args .file)) (at .loop .i) 0 < length (at .loop .max)
-file-below at h = let s = start at in omega (arith, below-at (length (now (s .args .max))) (now (s .args .file)) (at .loop .i) (s .pre .1) h, at .loop .inv .1)
+file-below : (at : tie.At-loop Inv-loop μ-loop) → at .loop .i < length (now (start at .args .file))
+    → getD (now (start at .args .file)) (at .loop .i) 0 < length (at .loop .max)
+file-below at h =
+    let s = start at in
+    omega
+    (arith, below-at (length (now (s .args .max))) (now (s .args .file)) (at .loop .i) (s .pre .1) h, at .loop .inv .1)
 
 loop-holds : tie.Need-loop-holds Inv-loop μ-loop
 loop-holds c =
@@ -68,7 +73,9 @@ mul-max-2 : tie.Need-mul-max-2 Inv-loop μ-loop
 mul-max-2 c = search needs
 
 slice-write-max : tie.Need-slice-write-max Inv-loop μ-loop
-slice-write-max c = file-below (c .before .before .before .before .before .before .before) (c .before .before .before .before .before .before .loop-test .taken)
+slice-write-max c =
+    file-below (c .before .before .before .before .before .before .before)
+    (c .before .before .before .before .before .before .loop-test .taken)
 
 add-i : tie.Need-add-i Inv-loop μ-loop
 add-i c = search needs
@@ -87,9 +94,12 @@ loop-again c =
       omega arith,
       simp length-set (at .loop .inv .1),
       λ ps e f l.
-          ap (λ (m : ℕ). Prim.Native.Nat.max (getD (set (at .loop .max) (getD (now (a .file)) i 0) m) f 0) (maxRt f (rowsFrom (now (a .file)) ps (now (a .rt)) (i + 1)))) v
-          ∙ max-step (at .loop .max) (rowAt (now (a .file)) ps (now (a .rt)) i) (rowsFrom (now (a .file)) ps (now (a .rt)) (i + 1)) f (file-below at h)
-          ∙ ap (λ (os : List Obs). Prim.Native.Nat.max (getD (at .loop .max) f 0) (maxRt f os)) (sym (rows-cons (now (a .file)) ps (now (a .rt)) i h (omega arith) (omega arith)))
+          ap
+          (λ (m : ℕ). Prim.Native.Nat.max (getD (set (at .loop .max) (getD (now (a .file)) i 0) m) f 0) (maxRt f (rowsFrom (now (a .file)) ps (now (a .rt)) (i + 1)))) v
+          ∙ max-step (at .loop .max) (rowAt (now (a .file)) ps (now (a .rt)) i)
+          (rowsFrom (now (a .file)) ps (now (a .rt)) (i + 1)) f (file-below at h)
+          ∙ ap (λ (os : List Obs). Prim.Native.Nat.max (getD (at .loop .max) f 0) (maxRt f os))
+          (sym (rows-cons (now (a .file)) ps (now (a .rt)) i h (omega arith) (omega arith)))
           ∙ at .loop .inv .2 ps e f l,
     )
 

@@ -29,7 +29,8 @@ abbrev Inv-loop : tie.InvT-loop
 Inv-loop file peptide label q rt files peptides cells₀ i₀ cells i =
     (i ≤ length file)
     × (length cells ≡ peptides * files)
-    × ((p f : ℕ) → p < peptides → f < files → carried cells files (trainingFrom file peptide rt label q i) p f ≡ minRt p f (trainingFrom file peptide rt label q 0))
+    ×
+    ((p f : ℕ) → p < peptides → f < files → carried cells files (trainingFrom file peptide rt label q i) p f ≡ minRt p f (trainingFrom file peptide rt label q 0))
 
 abbrev μ-loop : tie.MeasureT-loop
 μ-loop file peptide label q rt files peptides cells₀ i₀ cells i = length file - i
@@ -51,13 +52,16 @@ trains-is d =
     let t = turn d in
     let a = start (t .before) .args in
     let i = t .before .loop .i in
-    d .trains .ensures ∙ ap (λ (z : ℤ). trains z (getD (now (a .q)) i nan)) (toZ-ofZ w32 (getD (now (a .label)) i (pos 0)) (sfits-of (d .before .before .trains-arg .given)))
+    d .trains .ensures
+    ∙ ap (λ (z : ℤ). trains z (getD (now (a .q)) i nan))
+    (toZ-ofZ w32 (getD (now (a .label)) i (pos 0)) (sfits-of (d .before .before .trains-arg .given)))
 
 -- a row's cell is one of the cells, and their places are numbers of 32 bits
 place-in : (d : tie.After-trains Inv-loop μ-loop) →
     let t = turn d in
     let a = start (t .before) .args in
-    let at = placeOf (a .files) (getD (now (a .peptide)) (t .before .loop .i) 0) (getD (now (a .file)) (t .before .loop .i) 0) in
+    let at =
+    placeOf (a .files) (getD (now (a .peptide)) (t .before .loop .i) 0) (getD (now (a .file)) (t .before .loop .i) 0) in
     (at < length (t .before .loop .cells)) × (at < 2 ^ 32)
 place-in d =
     let t = turn d in
@@ -83,8 +87,12 @@ loop-holds c =
       λ p f h l.
           let at = placeOf (a .files) p f in
           let b = place-below (a .files) (a .peptides) p f h l in
-          let cell : getD (d .clear .last .0) at nan ≡ absent = ap (λ (l : List Float). getD l at nan) (d .clear .ensures) ∙ getD-replicate (length (now (a .cells))) at absent nan (omega (arith, b, s .pre .1 .2)) in
-          min-start (d .clear .last .0) (a .files) p f (trainingFrom (now (a .file)) (now (a .peptide)) (now (a .rt)) (now (a .label)) (now (a .q)) 0) (ap decode cell ∙ decode-mark),
+          let cell : getD (d .clear .last .0) at nan ≡ absent =
+          ap (λ (l : List Float). getD l at nan) (d .clear .ensures)
+          ∙ getD-replicate (length (now (a .cells))) at absent nan (omega (arith, b, s .pre .1 .2)) in
+          min-start (d .clear .last .0) (a .files) p f
+          (trainingFrom (now (a .file)) (now (a .peptide)) (now (a .rt)) (now (a .label)) (now (a .q)) 0)
+          (ap decode cell ∙ decode-mark),
     )
 
 mul-t18 : tie.Need-mul-t18 Inv-loop μ-loop
@@ -162,8 +170,10 @@ loop-again c =
       omega arith,
       simp length-set (at .loop .inv .1),
       λ p g h l.
-          ap (λ (k : ℕ). carried (set (at .loop .cells) k (c .earliest .result)) (a .files) rest p g) (d .place .ensures)
-          ∙ min-step (at .loop .cells) (a .files) (a .peptides) o rest (c .earliest .result) f (place-in b .0) cell p g l
+          ap (λ (k : ℕ). carried (set (at .loop .cells) k (c .earliest .result)) (a .files) rest p g)
+          (d .place .ensures)
+          ∙ min-step (at .loop .cells) (a .files) (a .peptides) o rest (c .earliest .result) f
+          (place-in b .0) cell p g l
           ∙ ap (λ (os : List Obs). carried (at .loop .cells) (a .files) os p g) (sym cons)
           ∙ at .loop .inv .2 p g h l,
     )
@@ -193,8 +203,12 @@ returns c =
     let at = c .before in
     let s = start at in
     let a = s .args in
-    let none-left = training-none (now (a .file)) (now (a .peptide)) (now (a .rt)) (now (a .label)) (now (a .q)) (at .loop .i) (omega arith) in
-    min-done (a .files) (a .peptides) (at .loop .cells) (trainingFrom (now (a .file)) (now (a .peptide)) (now (a .rt)) (now (a .label)) (now (a .q)) 0) (at .loop .inv .1)
+    let none-left =
+    training-none (now (a .file)) (now (a .peptide)) (now (a .rt)) (now (a .label)) (now (a .q)) (at .loop .i)
+    (omega arith) in
+    min-done (a .files) (a .peptides) (at .loop .cells)
+    (trainingFrom (now (a .file)) (now (a .peptide)) (now (a .rt)) (now (a .label)) (now (a .q)) 0)
+    (at .loop .inv .1)
     (λ p f h l. ap (λ (os : List Obs). carried (at .loop .cells) (a .files) os p f) (sym none-left) ∙ at .loop .inv .2 p f h l)
 
 pub mean-rt-by-file-spec : {M : Type 1} → statement M

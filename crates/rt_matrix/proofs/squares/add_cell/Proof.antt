@@ -13,7 +13,8 @@ returns : tie.Need-returns
 unfolding share atCell
 returns c = λ y.
     let a = c .before .args in
-    sym (ap (λ (o : Option Float). atCell addSquare y (spread (a .x-mean) (a .sx2)) (share (a .max) o)) (decode-absent (a .cell) (c .if1 .taken)))
+    sym
+    (ap (λ (o : Option Float). atCell addSquare y (spread (a .x-mean) (a .sx2)) (share (a .max) o)) (decode-absent (a .cell) (c .if1 .taken)))
 
 share-requires : tie.Need-share-requires
 share-requires c κs = search needs
@@ -23,7 +24,8 @@ unfolding share atCell addSquare
 returns-2 c = λ y.
     let a = c .before .before .args in
     ap (λ (x : Float). spread (a .x-mean) (add binary64 (a .sx2) (squared (a .x-mean) x))) (c .share .ensures)
-    ∙ sym (ap (λ (o : Option Float). atCell addSquare y (spread (a .x-mean) (a .sx2)) (share (a .max) o)) (decode-present (a .cell) (c .before .if1 .left)))
+    ∙ sym
+    (ap (λ (o : Option Float). atCell addSquare y (spread (a .x-mean) (a .sx2)) (share (a .max) o)) (decode-present (a .cell) (c .before .if1 .left)))
 
 pub add-cell-spec : {M : Type 1} → statement M
 add-cell-spec = tie.close (tie.spec returns share-requires returns-2)

@@ -30,14 +30,17 @@ returns c =
     let d = t .before in
     let a = start d .args in
     let y = d .before .row-mean in
-    r .add-row .ensures (y .result) ∙ after-kept addSquare (spreadsOf (now (a .x-mean)) (now (a .sx2))) (sharesOf (now (a .max)) (now (a .row))) (y .result) (y .ensures) (sym (d .is-normal64 .ensures) ∙ t .if1 .taken)
+    r .add-row .ensures (y .result)
+    ∙ after-kept addSquare (spreadsOf (now (a .x-mean)) (now (a .sx2))) (sharesOf (now (a .max)) (now (a .row)))
+    (y .result) (y .ensures) (sym (d .is-normal64 .ensures) ∙ t .if1 .taken)
 
 returns-2 : tie.Need-returns-2
 returns-2 c =
     let d = c .before in
     let a = start d .args in
     let y = d .before .row-mean in
-    after-dropped addSquare (spreadsOf (now (a .x-mean)) (now (a .sx2))) (sharesOf (now (a .max)) (now (a .row))) (y .result) (y .ensures) (sym (d .is-normal64 .ensures) ∙ c .if1 .left)
+    after-dropped addSquare (spreadsOf (now (a .x-mean)) (now (a .sx2))) (sharesOf (now (a .max)) (now (a .row)))
+    (y .result) (y .ensures) (sym (d .is-normal64 .ensures) ∙ c .if1 .left)
 
 pub add-peptide-spec : {M : Type 1} → statement M
 add-peptide-spec =

@@ -18,7 +18,8 @@ abbrev Inv-loop : tie.InvT-loop
 Inv-loop cells max peptides x-mean sx2₀ files at₀ left₀ sx2 at left =
     (at + left * length max ≡ length cells)
     × (length sx2 ≡ length max)
-    × (foldl (afterRow addSquare) (spreadsOf x-mean sx2) (rowShares max left (drop at cells)) ≡ foldl (afterRow addSquare) (spreadsOf x-mean sx2₀) (rowShares max peptides cells))
+    ×
+    (foldl (afterRow addSquare) (spreadsOf x-mean sx2) (rowShares max left (drop at cells)) ≡ foldl (afterRow addSquare) (spreadsOf x-mean sx2₀) (rowShares max peptides cells))
 
 abbrev μ-loop : tie.MeasureT-loop
 μ-loop cells max peptides x-mean sx2₀ files at₀ left₀ sx2 at left = left
@@ -33,7 +34,8 @@ loop-holds c = (omega arith, search needs, refl)
 add-end : tie.Need-add-end Inv-loop μ-loop
 add-end c =
     let a = start (c .before) .args in
-    omega (arith, next-row (now (a .max)) (now (a .cells)) (c .before .loop .at) (c .before .loop .left) (c .loop-test .taken) (c .before .loop .inv .0) .0)
+    omega
+    (arith, next-row (now (a .max)) (now (a .cells)) (c .before .loop .at) (c .before .loop .left) (c .loop-test .taken) (c .before .loop .inv .0) .0)
 
 mul-add-peptide : tie.Need-mul-add-peptide Inv-loop μ-loop
 mul-add-peptide c = search needs
@@ -47,7 +49,8 @@ part-add-peptide-start c = search needs
 part-add-peptide-end : tie.Need-part-add-peptide-end Inv-loop μ-loop
 part-add-peptide-end c =
     let a = start (c .before) .args in
-    next-row (now (a .max)) (now (a .cells)) (c .before .loop .at) (c .before .loop .left) (c .loop-test .taken) (c .before .loop .inv .0) .0
+    next-row (now (a .max)) (now (a .cells)) (c .before .loop .at) (c .before .loop .left) (c .loop-test .taken)
+    (c .before .loop .inv .0) .0
 
 add-peptide-requires : tie.Need-add-peptide-requires Inv-loop μ-loop
 add-peptide-requires c κs =
@@ -55,7 +58,8 @@ add-peptide-requires c κs =
     let at = t .before in
     let s = start at in
     let ms = now (s .args .max) in
-    let row = next-row ms (now (s .args .cells)) (at .loop .at) (at .loop .left) (t .loop-test .taken) (at .loop .inv .0) .0 in
+    let row =
+    next-row ms (now (s .args .cells)) (at .loop .at) (at .loop .left) (t .loop-test .taken) (at .loop .inv .0) .0 in
     (length-take-le _ _ (simp length-drop (omega arith)) ∙ add-sub-cancel-left (at .loop .at) (length ms), s .pre .1, at .loop .inv .1, s .pre .3)
 
 sub-left : tie.Need-sub-left Inv-loop μ-loop
@@ -77,8 +81,10 @@ loop-again c =
     let e = r .add-peptide .ensures ∙ ap (λ (n : ℕ). afterRow addSquare now-at (sharesOf ms (take n (drop (at .loop .at) cells)))) (add-sub-cancel-left (at .loop .at) (length ms)) in (
       next-row ms cells (at .loop .at) (at .loop .left) (t .loop-test .taken) (inv .0) .1,
       r .add-peptide .kept .1 .1 .1 .0 ∙ inv .1,
-      ap (λ (l : List Spread). foldl (afterRow addSquare) l (rowShares ms (at .loop .left - 1) (drop (at .loop .at + length ms) cells))) e
-          ∙ ap (foldl (afterRow addSquare) now-at) (sym (rows-left ms cells (at .loop .at) (at .loop .left) (t .loop-test .taken)))
+      ap
+          (λ (l : List Spread). foldl (afterRow addSquare) l (rowShares ms (at .loop .left - 1) (drop (at .loop .at + length ms) cells))) e
+          ∙ ap (foldl (afterRow addSquare) now-at)
+          (sym (rows-left ms cells (at .loop .at) (at .loop .left) (t .loop-test .taken)))
           ∙ inv .2,
     )
 
@@ -89,7 +95,9 @@ returns : tie.Need-returns Inv-loop μ-loop
 returns c =
     let at = c .before in
     let a = start at .args in
-    sym (ap (foldl (afterRow addSquare) (spreadsOf (now (a .x-mean)) (at .loop .sx2))) (rows-done (now (a .max)) (now (a .cells)) (at .loop .at) (at .loop .left) (omega arith))) ∙ at .loop .inv .2
+    sym
+    (ap (foldl (afterRow addSquare) (spreadsOf (now (a .x-mean)) (at .loop .sx2))) (rows-done (now (a .max)) (now (a .cells)) (at .loop .at) (at .loop .left) (omega arith)))
+    ∙ at .loop .inv .2
 
 pub add-peptides-spec : {M : Type 1} → statement M
 add-peptides-spec =

@@ -76,8 +76,11 @@ loop-again c =
       omega arith,
       simp length-set (inv .1),
       λ y.
-          let old = spreads-old (now (a .x-mean)) (at .loop .sx2) (length (now (a .max))) (s .pre .1) (inv .1) (atCell addSquare y) _ shares f (inv .2 y) (omega arith) in
-          spreads-step (now (a .x-mean)) (at .loop .sx2) (length (now (a .max))) (s .pre .1) (inv .1) (atCell addSquare y) _ shares f (inv .2 y) (c .add-cell .result) none
+          let old =
+          spreads-old (now (a .x-mean)) (at .loop .sx2) (length (now (a .max))) (s .pre .1) (inv .1)
+          (atCell addSquare y) _ shares f (inv .2 y) (omega arith) in
+          spreads-step (now (a .x-mean)) (at .loop .sx2) (length (now (a .max))) (s .pre .1) (inv .1)
+          (atCell addSquare y) _ shares f (inv .2 y) (c .add-cell .result) none
           (omega (arith, length-shares (now (a .max)) (now (a .row)) (s .pre .0)))
           (c .add-cell .ensures y ∙ ap₂ (atCell addSquare y) old (sym (shares-at (now (a .max)) (now (a .row)) f (omega arith) (omega arith)))),
     )
@@ -89,7 +92,9 @@ returns : tie.Need-returns Inv-loop μ-loop
 returns c = λ y.
     let at = c .before in
     let s = at .before .before .before .before .before in
-    at .loop .inv .2 y ∙ upTo-all _ _ _ _ (omega (arith, length-spreads (now (s .args .x-mean)) (now (s .args .sx2)) (length (now (s .args .max))) (s .pre .1) (s .pre .2)))
+    at .loop .inv .2 y
+    ∙ upTo-all _ _ _ _
+    (omega (arith, length-spreads (now (s .args .x-mean)) (now (s .args .sx2)) (length (now (s .args .max))) (s .pre .1) (s .pre .2)))
 
 pub add-row-spec : {M : Type 1} → statement M
 add-row-spec =

@@ -19,7 +19,8 @@ abbrev meanOf : ℕ → Float → Float
 meanOf n x = div binary64 x (number n)
 
 abbrev Inv-loop : tie.InvT-loop
-Inv-loop len sum-x x-mean₀ f₀ x-mean f = (f ≤ length len) × (length x-mean ≡ length len) × (x-mean ≡ upTo over f x-mean₀ (xMeans len sum-x))
+Inv-loop len sum-x x-mean₀ f₀ x-mean f =
+    (f ≤ length len) × (length x-mean ≡ length len) × (x-mean ≡ upTo over f x-mean₀ (xMeans len sum-x))
 
 abbrev μ-loop : tie.MeasureT-loop
 μ-loop len sum-x x-mean₀ f₀ x-mean f = length len - f
@@ -64,10 +65,13 @@ loop-again c =
     let inv = at .loop .inv in
     let v = div binary64 (getD (now (a .sum-x)) f nan) (c .u32-to-f64 .result) in
     let is : v ≡ getD (xMeans (now (a .len)) (now (a .sum-x))) f nan =
-    ap (div binary64 (getD (now (a .sum-x)) f nan)) (c .u32-to-f64 .ensures) ∙ sym (getD-zipWith meanOf (now (a .len)) (now (a .sum-x)) f 0 nan nan (omega arith) (omega arith)) in (
+    ap (div binary64 (getD (now (a .sum-x)) f nan)) (c .u32-to-f64 .ensures)
+    ∙ sym (getD-zipWith meanOf (now (a .len)) (now (a .sum-x)) f 0 nan nan (omega arith) (omega arith)) in (
       omega arith,
       simp length-set (inv .1),
-      upTo-step over f (now (a .x-mean)) (xMeans (now (a .len)) (now (a .sum-x))) (at .loop .x-mean) _ v nan nan (inv .2) refl is (omega (arith, length-zipWith meanOf (now (a .len)) (now (a .sum-x)) (le-of-eq (sym (s .pre .0))))),
+      upTo-step over f (now (a .x-mean)) (xMeans (now (a .len)) (now (a .sum-x))) (at .loop .x-mean) _ v nan nan
+          (inv .2) refl is
+          (omega (arith, length-zipWith meanOf (now (a .len)) (now (a .sum-x)) (le-of-eq (sym (s .pre .0))))),
     )
 
 same-length : tie.Need-same-length Inv-loop μ-loop
@@ -78,7 +82,10 @@ returns c =
     let at = c .before in
     let s = at .before .before .before .before in
     let a = s .args in
-    at .loop .inv .2 ∙ upTo-all _ _ _ _ (omega arith) ∙ zipped-over _ _ (s .pre .1 ∙ sym (length-zipWith meanOf (now (a .len)) (now (a .sum-x)) (le-of-eq (sym (s .pre .0)))))
+    at .loop .inv .2
+    ∙ upTo-all _ _ _ _ (omega arith)
+    ∙ zipped-over _ _
+    (s .pre .1 ∙ sym (length-zipWith meanOf (now (a .len)) (now (a .sum-x)) (le-of-eq (sym (s .pre .0)))))
 
 pub x-means-spec : {M : Type 1} → statement M
 x-means-spec =

@@ -13,7 +13,8 @@ returns : tie.Need-returns
 unfolding share atCell
 returns c =
     let a = c .before .args in
-    sym (ap (λ (o : Option Float). atCell addPoint (a .y) (a .s) (share (a .max) o)) (decode-absent (a .cell) (c .if1 .taken)))
+    sym
+    (ap (λ (o : Option Float). atCell addPoint (a .y) (a .s) (share (a .max) o)) (decode-absent (a .cell) (c .if1 .taken)))
 
 share-requires : tie.Need-share-requires
 share-requires c κs = search needs
@@ -27,7 +28,8 @@ returns-2 c =
     let d = c .before .before .before .before in
     let a = d .before .before .args in
     ap (λ (x : Float). addPoint (a .s) x (a .y)) (d .share .ensures)
-    ∙ sym (ap (λ (o : Option Float). atCell addPoint (a .y) (a .s) (share (a .max) o)) (decode-present (a .cell) (d .before .if1 .left)))
+    ∙ sym
+    (ap (λ (o : Option Float). atCell addPoint (a .y) (a .s) (share (a .max) o)) (decode-present (a .cell) (d .before .if1 .left)))
 
 pub add-cell-spec : {M : Type 1} → statement M
 add-cell-spec = tie.close (tie.spec returns share-requires add-t7 returns-2)

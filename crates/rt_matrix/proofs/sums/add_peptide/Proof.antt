@@ -39,13 +39,18 @@ returns c =
     let t = r .before .before .before .before .before in
     let d = t .before in
     let a = start d .args in
-    r .add-row .ensures ∙ after-kept addPoint (sumsOf (now (a .len)) (now (a .dot)) (now (a .sum-x)) (now (a .sum-y))) (sharesOf (now (a .max)) (now (a .row))) (d .before .row-mean .result) (d .before .row-mean .ensures) (sym (d .is-normal64 .ensures) ∙ t .if1 .taken)
+    r .add-row .ensures
+    ∙ after-kept addPoint (sumsOf (now (a .len)) (now (a .dot)) (now (a .sum-x)) (now (a .sum-y)))
+    (sharesOf (now (a .max)) (now (a .row))) (d .before .row-mean .result) (d .before .row-mean .ensures)
+    (sym (d .is-normal64 .ensures) ∙ t .if1 .taken)
 
 returns-2 : tie.Need-returns-2
 returns-2 c =
     let d = c .before in
     let a = start d .args in
-    after-dropped addPoint (sumsOf (now (a .len)) (now (a .dot)) (now (a .sum-x)) (now (a .sum-y))) (sharesOf (now (a .max)) (now (a .row))) (d .before .row-mean .result) (d .before .row-mean .ensures) (sym (d .is-normal64 .ensures) ∙ c .if1 .left)
+    after-dropped addPoint (sumsOf (now (a .len)) (now (a .dot)) (now (a .sum-x)) (now (a .sum-y)))
+    (sharesOf (now (a .max)) (now (a .row))) (d .before .row-mean .result) (d .before .row-mean .ensures)
+    (sym (d .is-normal64 .ensures) ∙ c .if1 .left)
 
 pub add-peptide-spec : {M : Type 1} → statement M
 add-peptide-spec =

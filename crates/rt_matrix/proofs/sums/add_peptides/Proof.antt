@@ -23,7 +23,8 @@ Inv-loop cells max peptides len₀ dot₀ sum-x₀ sum-y₀ files at₀ left₀ 
     (at + left * length max ≡ length cells)
     × Sized (length max) len dot sum-x sum-y
     × ((k : ℕ) → getD len k 0 + left < 2 ^ 32)
-    × (foldl (afterRow addPoint) (sumsOf len dot sum-x sum-y) (rowShares max left (drop at cells)) ≡ foldl (afterRow addPoint) (sumsOf len₀ dot₀ sum-x₀ sum-y₀) (rowShares max peptides cells))
+    ×
+    (foldl (afterRow addPoint) (sumsOf len dot sum-x sum-y) (rowShares max left (drop at cells)) ≡ foldl (afterRow addPoint) (sumsOf len₀ dot₀ sum-x₀ sum-y₀) (rowShares max peptides cells))
 
 abbrev μ-loop : tie.MeasureT-loop
 μ-loop cells max peptides len₀ dot₀ sum-x₀ sum-y₀ files at₀ left₀ len dot sum-x sum-y at left = left
@@ -38,7 +39,8 @@ loop-holds c = (omega arith, search needs, search needs, refl)
 add-end : tie.Need-add-end Inv-loop μ-loop
 add-end c =
     let a = start (c .before) .args in
-    omega (arith, next-row (now (a .max)) (now (a .cells)) (c .before .loop .at) (c .before .loop .left) (c .loop-test .taken) (c .before .loop .inv .0) .0)
+    omega
+    (arith, next-row (now (a .max)) (now (a .cells)) (c .before .loop .at) (c .before .loop .left) (c .loop-test .taken) (c .before .loop .inv .0) .0)
 
 mul-add-peptide : tie.Need-mul-add-peptide Inv-loop μ-loop
 mul-add-peptide c = search needs
@@ -52,7 +54,8 @@ part-add-peptide-start c = search needs
 part-add-peptide-end : tie.Need-part-add-peptide-end Inv-loop μ-loop
 part-add-peptide-end c =
     let a = start (c .before) .args in
-    next-row (now (a .max)) (now (a .cells)) (c .before .loop .at) (c .before .loop .left) (c .loop-test .taken) (c .before .loop .inv .0) .0
+    next-row (now (a .max)) (now (a .cells)) (c .before .loop .at) (c .before .loop .left) (c .loop-test .taken)
+    (c .before .loop .inv .0) .0
 
 add-peptide-requires : tie.Need-add-peptide-requires Inv-loop μ-loop
 add-peptide-requires c κs =
@@ -85,13 +88,20 @@ loop-again c =
     let cells = now (s .args .cells) in
     let row = next-row ms cells (at .loop .at) (at .loop .left) (t .loop-test .taken) (inv .0) in
     let here = take (length ms) (drop (at .loop .at) cells) in
-    let e = r .add-peptide .ensures ∙ ap (λ (n : ℕ). afterRow addPoint (sumsOf (at .loop .len) (at .loop .dot) (at .loop .sum-x) (at .loop .sum-y)) (sharesOf ms (take n (drop (at .loop .at) cells)))) (add-sub-cancel-left (at .loop .at) (length ms)) in
+    let e =
+    r .add-peptide .ensures
+    ∙ ap
+    (λ (n : ℕ). afterRow addPoint (sumsOf (at .loop .len) (at .loop .dot) (at .loop .sum-x) (at .loop .sum-y)) (sharesOf ms (take n (drop (at .loop .at) cells))))
+    (add-sub-cancel-left (at .loop .at) (length ms)) in
     let z : Sized (length ms) (r .add-peptide .last .1 .1 .0) (r .add-peptide .last .1 .1 .1 .0) (r .add-peptide .last .1 .1 .1 .1 .0) (r .add-peptide .last .1 .1 .1 .1 .1 .0) = record { len = r .add-peptide .kept .1 .1 .0 ∙ inv .1 .len; dot = r .add-peptide .kept .1 .1 .1 .0 ∙ inv .1 .dot; sumX = r .add-peptide .kept .1 .1 .1 .1 .0 ∙ inv .1 .sumX; sumY = r .add-peptide .kept .1 .1 .1 .1 .1 .0 ∙ inv .1 .sumY } in (
       row .1,
       z,
       λ k. omega (arith, inv .2 k, one-more (length ms) (at .loop .len) (at .loop .dot) (at .loop .sum-x) (at .loop .sum-y) (inv .1) _ _ _ _ z (sharesOf ms here) e k),
-      ap (λ (l : List Sums). foldl (afterRow addPoint) l (rowShares ms (at .loop .left - 1) (drop (at .loop .at + length ms) cells))) e
-          ∙ ap (foldl (afterRow addPoint) (sumsOf (at .loop .len) (at .loop .dot) (at .loop .sum-x) (at .loop .sum-y))) (sym (rows-left ms cells (at .loop .at) (at .loop .left) (t .loop-test .taken)))
+      ap
+          (λ (l : List Sums). foldl (afterRow addPoint) l (rowShares ms (at .loop .left - 1) (drop (at .loop .at + length ms) cells))) e
+          ∙ ap
+          (foldl (afterRow addPoint) (sumsOf (at .loop .len) (at .loop .dot) (at .loop .sum-x) (at .loop .sum-y)))
+          (sym (rows-left ms cells (at .loop .at) (at .loop .left) (t .loop-test .taken)))
           ∙ inv .3,
     )
 
@@ -111,7 +121,8 @@ returns : tie.Need-returns Inv-loop μ-loop
 returns c =
     let at = c .before in
     let s = start at in
-    sym (ap (foldl (afterRow addPoint) (sumsOf (at .loop .len) (at .loop .dot) (at .loop .sum-x) (at .loop .sum-y))) (rows-done (now (s .args .max)) (now (s .args .cells)) (at .loop .at) (at .loop .left) (omega arith)))
+    sym
+    (ap (foldl (afterRow addPoint) (sumsOf (at .loop .len) (at .loop .dot) (at .loop .sum-x) (at .loop .sum-y))) (rows-done (now (s .args .max)) (now (s .args .cells)) (at .loop .at) (at .loop .left) (omega arith)))
     ∙ at .loop .inv .3
 
 pub add-peptides-spec : {M : Type 1} → statement M

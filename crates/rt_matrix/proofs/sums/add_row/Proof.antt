@@ -72,8 +72,11 @@ add-cell-requires : tie.Need-add-cell-requires Inv-loop μ-loop
 add-cell-requires c κs =
     let at = c .before .before .before .before .before .before .before in
     let s = start at in
-    let old = sums-old (at .loop .len) (at .loop .dot) (at .loop .sum-x) (at .loop .sum-y) (length (now (s .args .max))) (at .loop .inv .1) _ _ _ (at .loop .f) (at .loop .inv .2) (omega arith) in
-    omega (arith, s .pre .2 (at .loop .f), ap (λ (t : Sums). t .len) (old ∙ sums-at _ _ _ _ _ (s .pre .1) (at .loop .f) (omega arith)))
+    let old =
+    sums-old (at .loop .len) (at .loop .dot) (at .loop .sum-x) (at .loop .sum-y) (length (now (s .args .max)))
+    (at .loop .inv .1) _ _ _ (at .loop .f) (at .loop .inv .2) (omega arith) in
+    omega
+    (arith, s .pre .2 (at .loop .f), ap (λ (t : Sums). t .len) (old ∙ sums-at _ _ _ _ _ (s .pre .1) (at .loop .f) (omega arith)))
 
 mul-len : tie.Need-mul-len Inv-loop μ-loop
 mul-len c = search needs
@@ -112,11 +115,14 @@ loop-again c =
     let a = s .args in
     let f = at .loop .f in
     let inv = at .loop .inv in
-    let step = sums-step (at .loop .len) (at .loop .dot) (at .loop .sum-x) (at .loop .sum-y) (length (now (a .max))) (inv .1) (atCell addPoint (a .y)) _ (sharesOf (now (a .max)) (now (a .row))) f (inv .2) in
+    let step =
+    sums-step (at .loop .len) (at .loop .dot) (at .loop .sum-x) (at .loop .sum-y) (length (now (a .max))) (inv .1)
+    (atCell addPoint (a .y)) _ (sharesOf (now (a .max)) (now (a .row))) f (inv .2) in
     let old = sums-old (at .loop .len) (at .loop .dot) (at .loop .sum-x) (at .loop .sum-y) (length (now (a .max))) (inv .1) (atCell addPoint (a .y)) _ (sharesOf (now (a .max)) (now (a .row))) f (inv .2) (omega arith) in (
       omega arith,
       record { len = simp length-set (inv .1 .len); dot = simp length-set (inv .1 .dot); sumX = simp length-set (inv .1 .sumX); sumY = simp length-set (inv .1 .sumY) },
-      step (c .add-cell .result) none (omega (arith, length-shares (now (a .max)) (now (a .row)) (s .pre .0))) (c .add-cell .ensures ∙ ap₂ (atCell addPoint (a .y)) old (sym (shares-at (now (a .max)) (now (a .row)) f (omega arith) (omega arith)))),
+      step (c .add-cell .result) none (omega (arith, length-shares (now (a .max)) (now (a .row)) (s .pre .0)))
+          (c .add-cell .ensures ∙ ap₂ (atCell addPoint (a .y)) old (sym (shares-at (now (a .max)) (now (a .row)) f (omega arith) (omega arith)))),
     )
 
 same-length : tie.Need-same-length Inv-loop μ-loop

@@ -33,8 +33,10 @@ returns-2 : tie.Need-returns-2
 returns-2 c =
     let e = c .before in
     let a = e .before .before .before .args in
-    let least : workspaceCells (orderOf Mobility) ≤ a .workspace = omega (arith, e .if1 .left, fit-cells (e .before)) in
-    c .cells-fit .ensures ∙ with-least (a .peptides * a .files) (workspaceCells (orderOf Mobility)) (a .workspace) least
+    let least : workspaceCells (orderOf Mobility) ≤ a .workspace =
+    omega (arith, e .if1 .left, fit-cells (e .before)) in
+    c .cells-fit .ensures
+    ∙ with-least (a .peptides * a .files) (workspaceCells (orderOf Mobility)) (a .workspace) least
 
 pub workspace-fits-spec : {M : Type 1} → statement M
 workspace-fits-spec =

@@ -37,7 +37,8 @@ module _ (c : tie.In-loop Inv-loop μ-loop) where
   turn = ap (readFrom max v) (sym (drop-next 0 s i (c .loop-test .taken))) ∙ c .before .loop .inv .2
 
   -- the byte is a digit
-  more : 48 ≤ getD s i 0 → getD s i 0 ≤ 57 → readFrom max (v * 10 + (getD s i 0 - 48)) (drop (i + 1) s) ≡ readFrom max 0 s
+  more : 48 ≤ getD s i 0 → getD s i 0 ≤ 57
+      → readFrom max (v * 10 + (getD s i 0 - 48)) (drop (i + 1) s) ≡ readFrom max 0 s
   more h l = sym (from-digit max v (getD s i 0) (drop (i + 1) s) h l) ∙ turn
 
 loop-holds : tie.Need-loop-holds Inv-loop μ-loop
@@ -50,7 +51,9 @@ returns : tie.Need-returns Inv-loop μ-loop
 returns c = let l = c .before .before in ap decimalRead (sym (from-low (max l) (v l) _ _ (c .if1 .taken)) ∙ turn l)
 
 returns-2 : tie.Need-returns-2 Inv-loop μ-loop
-returns-2 c = let l = c .before .before .before in ap decimalRead (sym (from-high (max l) (v l) _ _ (c .if2 .taken)) ∙ turn l)
+returns-2 c =
+    let l = c .before .before .before in
+    ap decimalRead (sym (from-high (max l) (v l) _ _ (c .if2 .taken)) ∙ turn l)
 
 mul-v : tie.Need-mul-v Inv-loop μ-loop
 mul-v c = omega arith
@@ -64,7 +67,8 @@ add-v c = omega arith
 returns-3 : tie.Need-returns-3 Inv-loop μ-loop
 returns-3 c =
     let l = c .before .before .before .before in
-    ap decimalRead (sym (from-over (max l) _ (drop (i l + 1) (s l)) (c .if3 .taken)) ∙ more l (c .before .before .if1 .left) (c .before .if2 .left))
+    ap decimalRead
+    (sym (from-over (max l) _ (drop (i l + 1) (s l)) (c .if3 .taken)) ∙ more l (c .before .before .if1 .left) (c .before .if2 .left))
 
 add-i : tie.Need-add-i Inv-loop μ-loop
 add-i c = search needs
@@ -73,7 +77,8 @@ loop-less : tie.Need-loop-less Inv-loop μ-loop
 loop-less c = search needs
 
 loop-again : tie.Need-loop-again Inv-loop μ-loop
-loop-again c = (omega arith, c .if3 .left, more (c .before .before .before .before) (c .before .before .if1 .left) (c .before .if2 .left))
+loop-again c =
+    (omega arith, c .if3 .left, more (c .before .before .before .before) (c .before .before .if1 .left) (c .before .if2 .left))
 
 cast-t12 : tie.Need-cast-t12 Inv-loop μ-loop
 cast-t12 c = omega arith
@@ -83,7 +88,8 @@ returns-4 c =
     let l = c .before in
     ap decimalRead
     (sym (from-end (l .before .args .max) (l .loop .v) (l .loop .inv .1))
-    ∙ ap (readFrom (l .before .args .max) (l .loop .v)) (sym (drop-of-length-le (now (l .before .args .s)) (c .loop-test .left)))
+    ∙ ap (readFrom (l .before .args .max) (l .loop .v))
+    (sym (drop-of-length-le (now (l .before .args .s)) (c .loop-test .left)))
     ∙ l .loop .inv .2)
 
 pub digits-up-to-spec : {M : Type 1} → statement M

@@ -26,7 +26,8 @@ returns-3 c =
     let s = now (c .before .before .before .before .args .s) in
     let max = c .before .before .before .before .args .max in
     let e : readDecimal max s ≡ readFrom max 0 s =
-    ⊎-elim (λ w. read-more max s (w .0 .taken) (w .2 .left)) (λ w. read-one max s (c .before .before .if1 .left) (w .left)) (c .before .if2 .came) in
+    ⊎-elim (λ w. read-more max s (w .0 .taken) (w .2 .left))
+    (λ w. read-one max s (c .before .before .if1 .left) (w .left)) (c .before .if2 .came) in
     c .digits-up-to .ensures ∙ ap decimalRead (sym e)
 
 pub read-decimal-spec : {M : Type 1} → statement M

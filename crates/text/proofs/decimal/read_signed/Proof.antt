@@ -31,21 +31,27 @@ minus zero = refl
 minus (suc k) = ap (λ (n : ℕ). negsuc (suc n)) (zero-add k)
 
 below : (k : ℕ) → k < 2 ^ 31 → SFits w32 (negsuc 0 -ℤ toZ w32 k)
-below k h = record { sfits = subst (λ (z : ℤ). mag z < 2 ^ 31) (sym (ap (λ (z : ℤ). negsuc 0 -ℤ z) (toZ-pos w32 h) ∙ minus k)) h }
+below k h =
+    record {
+      sfits =
+          subst (λ (z : ℤ). mag z < 2 ^ 31) (sym (ap (λ (z : ℤ). negsuc 0 -ℤ z) (toZ-pos w32 h) ∙ minus k)) h;
+    }
 
 less : (k : ℕ) → k < 2 ^ 31 → toZ w32 (ofZ w32 (negsuc 0 -ℤ toZ w32 k)) ≡ negsuc k
 less k h = toZ-ofZ (below k h) ∙ ap (λ (z : ℤ). negsuc 0 -ℤ z) (toZ-pos w32 h) ∙ minus k
 
 -- ---- what the rest after the first byte gives
 module _ (s : List ℕ) (m : getD s 0 0 ≡ 45) where
-  rest-none : D.Malformed ≡ decimalRead (readDecimal (2 ^ 31) (take (length s - 1) (drop 1 s))) → readSigned s ≡ none
+  rest-none : D.Malformed ≡ decimalRead (readDecimal (2 ^ 31) (take (length s - 1) (drop 1 s)))
+      → readSigned s ≡ none
   unfolding negative
   rest-none h =
       signed-first s m
       ∙ ap (λ (t : List ℕ). negative (readDecimal (2 ^ 31) t)) (sym (part-rest s 1))
       ∙ ap negative (decimal-none (readDecimal (2 ^ 31) (take (length s - 1) (drop 1 s))) h)
 
-  rest-some : (n : ℕ) → D.Value n ≡ decimalRead (readDecimal (2 ^ 31) (take (length s - 1) (drop 1 s))) → readSigned s ≡ negative (some n)
+  rest-some : (n : ℕ) → D.Value n ≡ decimalRead (readDecimal (2 ^ 31) (take (length s - 1) (drop 1 s)))
+      → readSigned s ≡ negative (some n)
   rest-some n h =
       signed-first s m
       ∙ ap (λ (t : List ℕ). negative (readDecimal (2 ^ 31) t)) (sym (part-rest s 1))
@@ -78,7 +84,8 @@ enum-told c = search needs
 returns-2 : tie.Need-returns-2
 returns-2 c =
     let b = c .before .before in
-    ap signedRead (sym (rest-none _ (b .before .before .if2 .taken) (sym (c .enum-told .given .1) ∙ b .read-decimal .ensures)))
+    ap signedRead
+    (sym (rest-none _ (b .before .before .if2 .taken) (sym (c .enum-told .given .1) ∙ b .read-decimal .ensures)))
 
 -- the number after the `-`
 module _ (c : tie.After-known-told) where
@@ -113,7 +120,8 @@ sub-t16 c = below (n (c .before) - 1) (omega (arith, most (c .before)))
 returns-4 : tie.Need-returns-4
 returns-4 c =
     let k : n (c .before) - 1 < 2 ^ 31 = omega (arith, most (c .before), c .if3 .left) in
-    ap S.Value (less (n (c .before) - 1) k) ∙ ap signedRead (sym (is (c .before) ∙ negative-is (n (c .before)) (c .if3 .left)))
+    ap S.Value (less (n (c .before) - 1) k)
+    ∙ ap signedRead (sym (is (c .before) ∙ negative-is (n (c .before)) (c .if3 .left)))
 
 read-decimal-requires-2 : tie.Need-read-decimal-requires-2
 read-decimal-requires-2 c κs = search needs
@@ -128,16 +136,19 @@ enum-told-2 c = search needs
 module _ (s : List ℕ) (m : getD s 0 0 ≡ 45 → ⊥) where
   whole-none : D.Malformed ≡ decimalRead (readDecimal (2 ^ 31 - 1) s) → readSigned s ≡ none
   unfolding nonNegative
-  whole-none h = signed-plain s (ne-eqb (getD s 0 0) 45 m) ∙ ap nonNegative (decimal-none (readDecimal (2 ^ 31 - 1) s) h)
+  whole-none h =
+      signed-plain s (ne-eqb (getD s 0 0) 45 m) ∙ ap nonNegative (decimal-none (readDecimal (2 ^ 31 - 1) s) h)
 
   whole-some : (n : ℕ) → D.Value n ≡ decimalRead (readDecimal (2 ^ 31 - 1) s) → readSigned s ≡ some (pos n)
   unfolding nonNegative
-  whole-some n h = signed-plain s (ne-eqb (getD s 0 0) 45 m) ∙ ap nonNegative (decimal-some (readDecimal (2 ^ 31 - 1) s) n h)
+  whole-some n h =
+      signed-plain s (ne-eqb (getD s 0 0) 45 m) ∙ ap nonNegative (decimal-some (readDecimal (2 ^ 31 - 1) s) n h)
 
 returns-5 : tie.Need-returns-5
 returns-5 c =
     let b = c .before .before in
-    ap signedRead (sym (whole-none (now (b .before .before .before .before .before .args .s)) (b .before .if2 .left) (sym (c .enum-told2 .given .1) ∙ b .read-decimal2 .ensures)))
+    ap signedRead
+    (sym (whole-none (now (b .before .before .before .before .before .args .s)) (b .before .if2 .left) (sym (c .enum-told2 .given .1) ∙ b .read-decimal2 .ensures)))
 
 module _ (c : tie.After-known-told2) where
   abbrev s₂ : List ℕ
@@ -157,7 +168,8 @@ cast-t18 c = record { sfits = most₂ c }
 
 returns-6 : tie.Need-returns-6
 returns-6 c =
-    ap S.Value (toZ-pos w32 (most₂ c)) ∙ ap signedRead (sym (whole-some (s₂ c) (c .before .before .before .before .if2 .left) (n₂ c) (told₂ c)))
+    ap S.Value (toZ-pos w32 (most₂ c))
+    ∙ ap signedRead (sym (whole-some (s₂ c) (c .before .before .before .before .if2 .left) (n₂ c) (told₂ c)))
 
 pub read-signed-spec : {M : Type 1} → statement M
 read-signed-spec =

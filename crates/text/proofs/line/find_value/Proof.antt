@@ -43,7 +43,8 @@ returns c =
     let b = c .before .before in
     let a = b .before .before .before .args in
     let o = lineOf (drop (a .at) (now (a .text))) in
-    ap (valueAt (a .at) (now (a .key))) (sym (end-none (a .at) o (sym (c .enum-told .given .1) ∙ b .line-end .ensures)))
+    ap (valueAt (a .at) (now (a .key)))
+    (sym (end-none (a .at) o (sym (c .enum-told .given .1) ∙ b .line-end .ensures)))
 
 sub-starts-with : tie.Need-sub-starts-with
 sub-starts-with c = end-le (text c) (at c) (end c) (told c)

@@ -29,7 +29,9 @@ module _ (c : tie.In-loop Inv-loop μ-loop) where
   i = c .before .loop .i
 
   turn : lineEnd i (lineOf (getD text i 0 ∷ drop (i + 1) text)) ≡ lineEnd at (lineOf (drop at text))
-  turn = ap (λ (l : List ℕ). lineEnd i (lineOf l)) (sym (drop-next 0 text i (c .loop-test .taken))) ∙ c .before .loop .inv
+  turn =
+      ap (λ (l : List ℕ). lineEnd i (lineOf l)) (sym (drop-next 0 text i (c .loop-test .taken)))
+      ∙ c .before .loop .inv
 
 loop-holds : tie.Need-loop-holds Inv-loop μ-loop
 loop-holds c = refl
@@ -53,7 +55,9 @@ returns-2 : tie.Need-returns-2 Inv-loop μ-loop
 unfolding lineOf
 returns-2 c =
     let l = c .before in
-    ap (λ (s : List ℕ). lineEnd (l .loop .i) (lineOf s)) (sym (drop-of-length-le (now (l .before .args .text)) (c .loop-test .left))) ∙ l .loop .inv
+    ap (λ (s : List ℕ). lineEnd (l .loop .i) (lineOf s))
+    (sym (drop-of-length-le (now (l .before .args .text)) (c .loop-test .left)))
+    ∙ l .loop .inv
 
 pub line-end-spec : {M : Type 1} → statement M
 line-end-spec =

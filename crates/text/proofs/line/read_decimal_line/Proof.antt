@@ -60,7 +60,8 @@ unfolding decimalLine
 returns c =
     let b = c .before .before in
     let a = b .before .before .before .args in
-    ap (decimalLineAt (a .at)) (sym (line-malformed (readDecimal (a .max)) (now (a .text)) (a .at) (now (a .key)) (sym (c .enum-told .given .1) ∙ b .find-value .ensures)))
+    ap (decimalLineAt (a .at))
+    (sym (line-malformed (readDecimal (a .max)) (now (a .text)) (a .at) (now (a .key)) (sym (c .enum-told .given .1) ∙ b .find-value .ensures)))
 
 sub-read-decimal : tie.Need-sub-read-decimal
 sub-read-decimal c = found-le (text c) (at c) (key c) (from c) (end c) (told c)
@@ -89,7 +90,9 @@ returns-2 c =
     (sym (line-none (text l) (at l) (key l) (from l) (end l) (told l) (readDecimal (max l)) (decimal-none _ (sym (c .enum-told2 .given .1) ∙ b .read-decimal .ensures))))
 
 add-t11 : tie.Need-add-t11
-add-t11 c = let l = c .before .before .before .before .before in omega (arith, found-within (text l) (at l) (key l) (from l) (end l) (told l))
+add-t11 c =
+    let l = c .before .before .before .before .before in
+    omega (arith, found-within (text l) (at l) (key l) (from l) (end l) (told l))
 
 returns-3 : tie.Need-returns-3
 unfolding decimalLine

@@ -52,7 +52,9 @@ module _ (c : tie.After-known-told) where
 
   -- the value is as long as the code works out
   wide : length part ≡ end - from
-  wide = length-take-le (end - from) (drop from text) (rw length-drop (omega (arith, found-within text at key from end told)))
+  wide =
+      length-take-le (end - from) (drop from text)
+      (rw length-drop (omega (arith, found-within text at key from end told)))
 
 find-value-requires : tie.Need-find-value-requires
 find-value-requires c κs = search needs
@@ -68,7 +70,8 @@ unfolding hexLine
 returns c =
     let b = c .before .before in
     let a = b .before .before .before .args in
-    ap (hexLineAt (a .at)) (sym (line-malformed (readHexDigits (a .digits)) (now (a .text)) (a .at) (now (a .key)) (sym (c .enum-told .given .1) ∙ b .find-value .ensures)))
+    ap (hexLineAt (a .at))
+    (sym (line-malformed (readHexDigits (a .digits)) (now (a .text)) (a .at) (now (a .key)) (sym (c .enum-told .given .1) ∙ b .find-value .ensures)))
 
 sub-if1 : tie.Need-sub-if1
 sub-if1 c = found-le (text c) (at c) (key c) (from c) (end c) (told c)
@@ -108,7 +111,9 @@ returns-3 c =
     (digits-none (digits l) (part l) (wide l ∙ b .before .before .if1 .left) (sym (c .enum-told2 .given .1) ∙ b .read-hex .ensures))))
 
 add-t9 : tie.Need-add-t9
-add-t9 c = let l = c .before .before .before .before .before .before in omega (arith, found-within (text l) (at l) (key l) (from l) (end l) (told l))
+add-t9 c =
+    let l = c .before .before .before .before .before .before in
+    omega (arith, found-within (text l) (at l) (key l) (from l) (end l) (told l))
 
 returns-4 : tie.Need-returns-4
 unfolding hexLine

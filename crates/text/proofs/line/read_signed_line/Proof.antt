@@ -59,7 +59,8 @@ unfolding signedLine
 returns c =
     let b = c .before .before in
     let a = b .before .before .before .args in
-    ap (signedLineAt (a .at)) (sym (line-malformed readSigned (now (a .text)) (a .at) (now (a .key)) (sym (c .enum-told .given .1) ∙ b .find-value .ensures)))
+    ap (signedLineAt (a .at))
+    (sym (line-malformed readSigned (now (a .text)) (a .at) (now (a .key)) (sym (c .enum-told .given .1) ∙ b .find-value .ensures)))
 
 sub-read-signed : tie.Need-sub-read-signed
 sub-read-signed c = found-le (text c) (at c) (key c) (from c) (end c) (told c)
@@ -88,7 +89,9 @@ returns-2 c =
     (sym (line-none (text l) (at l) (key l) (from l) (end l) (told l) readSigned (signed-none _ (sym (c .enum-told2 .given .1) ∙ b .read-signed .ensures))))
 
 add-t10 : tie.Need-add-t10
-add-t10 c = let l = c .before .before .before .before .before in omega (arith, found-within (text l) (at l) (key l) (from l) (end l) (told l))
+add-t10 c =
+    let l = c .before .before .before .before .before in
+    omega (arith, found-within (text l) (at l) (key l) (from l) (end l) (told l))
 
 returns-3 : tie.Need-returns-3
 unfolding signedLine

@@ -32,7 +32,8 @@ module _ (c : tie.In-loop Inv-loop μ-loop) where
 
   turn : startsWith (getD key i 0 ∷ drop (i + 1) key) (getD s i 0 ∷ drop (i + 1) s) ≡ startsWith key s
   turn =
-      ap₂ (λ (k l : List ℕ). startsWith k l) (sym (drop-next 0 key i (c .loop-test .taken))) (sym (drop-next 0 s i (omega arith)))
+      ap₂ (λ (k l : List ℕ). startsWith k l) (sym (drop-next 0 key i (c .loop-test .taken)))
+      (sym (drop-next 0 s i (omega arith)))
       ∙ c .before .loop .inv .1
 
 returns : tie.Need-returns Inv-loop μ-loop
@@ -48,7 +49,9 @@ shared-slice-read-if2-2 : tie.Need-shared-slice-read-if2-2 Inv-loop μ-loop
 shared-slice-read-if2-2 c = search needs
 
 returns-2 : tie.Need-returns-2 Inv-loop μ-loop
-returns-2 c = let l = c .before .before .before in sym (starts-differ (getD (key l) (i l) 0) (getD (s l) (i l) 0) _ _ (c .if2 .taken)) ∙ turn l
+returns-2 c =
+    let l = c .before .before .before in
+    sym (starts-differ (getD (key l) (i l) 0) (getD (s l) (i l) 0) _ _ (c .if2 .taken)) ∙ turn l
 
 add-i : tie.Need-add-i Inv-loop μ-loop
 add-i c = search needs
@@ -57,13 +60,17 @@ loop-less : tie.Need-loop-less Inv-loop μ-loop
 loop-less c = search needs
 
 loop-again : tie.Need-loop-again Inv-loop μ-loop
-loop-again c = let l = c .before .before .before in (omega arith, sym (starts-same (getD (key l) (i l) 0) (getD (s l) (i l) 0) _ _ (c .if2 .left)) ∙ turn l)
+loop-again c =
+    let l = c .before .before .before in
+    (omega arith, sym (starts-same (getD (key l) (i l) 0) (getD (s l) (i l) 0) _ _ (c .if2 .left)) ∙ turn l)
 
 returns-3 : tie.Need-returns-3 Inv-loop μ-loop
 unfolding startsWith
 returns-3 c =
     let l = c .before in
-    ap (λ (k : List ℕ). startsWith k (drop (l .loop .i) (now (l .before .before .args .s)))) (sym (drop-of-length-le (now (l .before .before .args .key)) (c .loop-test .left))) ∙ l .loop .inv .1
+    ap (λ (k : List ℕ). startsWith k (drop (l .loop .i) (now (l .before .before .args .s))))
+    (sym (drop-of-length-le (now (l .before .before .args .key)) (c .loop-test .left)))
+    ∙ l .loop .inv .1
 
 pub starts-with-spec : {M : Type 1} → statement M
 starts-with-spec =

@@ -14,13 +14,15 @@ use Rattle.text.proofs.write.write_bytes.Statement.{statement}
 use Rattle.text.proofs.write.write_bytes.Tie as tie
 
 abbrev Inv-loop : tie.InvT-loop
-Inv-loop out₀ at s i₀ out i = (i ≤ length s) × (length out ≡ length out₀) × (sets out (at + i) (drop i s) ≡ sets out₀ at s)
+Inv-loop out₀ at s i₀ out i =
+    (i ≤ length s) × (length out ≡ length out₀) × (sets out (at + i) (drop i s) ≡ sets out₀ at s)
 
 abbrev μ-loop : tie.MeasureT-loop
 μ-loop out₀ at s i₀ out i = length s - i
 
 loop-holds : tie.Need-loop-holds Inv-loop μ-loop
-loop-holds c = (search needs, refl, ap (λ (k : ℕ). sets (now (c .args .out)) k (now (c .args .s))) (add-zero (c .args .at)))
+loop-holds c =
+    (search needs, refl, ap (λ (k : ℕ). sets (now (c .args .out)) k (now (c .args .s))) (add-zero (c .args .at)))
 
 shared-slice-read-out : tie.Need-shared-slice-read-out Inv-loop μ-loop
 shared-slice-read-out c = search needs
@@ -53,7 +55,10 @@ returns c =
     let l = c .before in
     record {
       next = omega arith;
-      out = ap (sets (l .loop .out) (l .before .args .at + l .loop .i)) (sym (drop-of-length-le (now (l .before .args .s)) (c .loop-test .left))) ∙ l .loop .inv .2;
+      out =
+          ap (sets (l .loop .out) (l .before .args .at + l .loop .i))
+          (sym (drop-of-length-le (now (l .before .args .s)) (c .loop-test .left)))
+          ∙ l .loop .inv .2;
     }
 
 pub write-bytes-spec : {M : Type 1} → statement M

@@ -56,7 +56,8 @@ loop-again c =
     )
 
 -- what is stored, once the last digit is
-stored : (n i rest : ℕ) (digits : List ℕ) → length digits ≡ 10 → i < 10 → rest < 10 → decimalOnto rest rest (drop (i + 1) digits) ≡ decimalOf n
+stored : (n i rest : ℕ) (digits : List ℕ) → length digits ≡ 10 → i < 10 → rest < 10
+    → decimalOnto rest rest (drop (i + 1) digits) ≡ decimalOf n
     → take (10 - i) (drop i (set digits i (48 + rest))) ≡ decimalOf n
 stored n i rest digits len h r e =
     let ds = set digits i (48 + rest) in
@@ -94,7 +95,8 @@ returns : tie.Need-returns Inv-loop μ-loop
 returns c =
     let l = c .before .before .before .before .before .before in
     let a = l .before .before .before .args in
-    subst (λ (t : List ℕ). Wrote (now (a .out)) (a .at) t (c .before .before .write-bytes .result) (c .before .before .write-bytes .last .0))
+    subst
+    (λ (t : List ℕ). Wrote (now (a .out)) (a .at) t (c .before .before .write-bytes .result) (c .before .before .write-bytes .last .0))
     (stored (a .n) (l .before .loop .i) (l .before .loop .rest) (l .before .loop .digits) (l .before .loop .inv .0) (l .before .loop .inv .1) (l .loop-test .left) (l .before .loop .inv .3))
     (c .before .before .write-bytes .ensures)
 

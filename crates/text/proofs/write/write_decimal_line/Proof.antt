@@ -16,7 +16,9 @@ write-bytes-requires : tie.Need-write-bytes-requires
 write-bytes-requires c κs = omega arith
 
 write-decimal-requires : tie.Need-write-decimal-requires
-write-decimal-requires c κs = omega (arith, c .before .before .before .write-bytes .ensures .next, c .before .before .before .write-bytes .kept .0)
+write-decimal-requires c κs =
+    omega
+    (arith, c .before .before .before .write-bytes .ensures .next, c .before .before .before .write-bytes .kept .0)
 
 slice-aggregate-write-bytes : tie.Need-slice-aggregate-write-bytes
 slice-aggregate-write-bytes c = search needs
@@ -26,7 +28,8 @@ write-bytes-requires-2 c κs =
     let d = c .before .before .before .before in
     let b = d .before .before .before .before in
     let a = b .before .before .before .before .args in
-    omega (arith, d .write-decimal .ensures .next, d .write-decimal .kept .0, b .write-bytes .ensures .next, b .write-bytes .kept .0, decimal-length 9 (a .n) (omega arith))
+    omega
+    (arith, d .write-decimal .ensures .next, d .write-decimal .kept .0, b .write-bytes .ensures .next, b .write-bytes .kept .0, decimal-length 9 (a .n) (omega arith))
 
 same-length : tie.Need-same-length
 same-length c =

@@ -65,7 +65,9 @@ module _ (c : tie.After-write-hex) where
   put : Wrote m from (hexOf digits v) (from + digits) (putMid from (from + digits - from) m (c .write-hex .last .1 .0))
   put =
       let k : from + digits - from ≡ digits = omega arith in
-      subst (λ (ys : List ℕ). Wrote m from (hexOf digits v) (from + digits) (putMid from (from + digits - from) m ys)) (sym filled)
+      subst
+      (λ (ys : List ℕ). Wrote m from (hexOf digits v) (from + digits) (putMid from (from + digits - from) m ys))
+      (sym filled)
       (wrote-part m from (hexOf digits v) (from + digits - from) (from + digits) (length-hexOf digits v ∙ sym k) (omega arith) (omega (arith, within)))
 
 slice-aggregate-write-bytes : tie.Need-slice-aggregate-write-bytes

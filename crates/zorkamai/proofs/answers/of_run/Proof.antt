@@ -29,7 +29,8 @@ returns c =
     ∙ sym (ap ofRun (c .before .before .before .a .given .1))
 
 returns-2 : tie.Need-returns-2
-returns-2 c = cc (c .before .only .ensures, c .only2 .ensures) ∙ sym (ap ofRun (c .before .before .before .a2 .given .1))
+returns-2 c =
+    cc (c .before .only .ensures, c .only2 .ensures) ∙ sym (ap ofRun (c .before .before .before .a2 .given .1))
 
 pub of-run-spec : {M : Type 1} → statement M
 of-run-spec =
