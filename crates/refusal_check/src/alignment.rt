@@ -1,10 +1,9 @@
 // Calls of the alignment. Each output has four cells.
 ghost use Prim.Native.Nat.{_≤_};
-use crate::held;
-use crate::held::CELL;
-use crate::held::VALUE;
-use crate::held::VALUES;
-use crate::held::WORKSPACE;
+use held::CELL;
+use held::VALUE;
+use held::VALUES;
+use held::WORKSPACE;
 use retention_alignment::AlignAnswer;
 
 fn number(answer: AlignAnswer) -> u64 {

@@ -1,12 +1,11 @@
 // Calls of the run. The row has the q 0.0, the time 10.0, charge 1 and the mobility 0.5. An output by file or by row
 // has four cells.
 ghost use Prim.Native.Nat.{_≤_};
-use crate::held;
-use crate::held::CELL;
-use crate::held::CELLS;
-use crate::held::VALUE;
-use crate::held::VALUES;
-use crate::held::WORKSPACE;
+use held::CELL;
+use held::CELLS;
+use held::VALUE;
+use held::VALUES;
+use held::WORKSPACE;
 use run::RunAnswer;
 
 fn write_numbers(answer: RunAnswer) {

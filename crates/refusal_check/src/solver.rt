@@ -1,10 +1,9 @@
 // Calls of the solver.
 ghost use Prim.Native.Nat.{_≤_};
-use crate::held;
-use crate::held::CELL;
-use crate::held::CELLS;
-use crate::held::WORKSPACE;
 use gauss::SolveAnswer;
+use held::CELL;
+use held::CELLS;
+use held::WORKSPACE;
 
 fn number(answer: SolveAnswer) -> u64 {
     match answer {

@@ -1,7 +1,7 @@
 -- `refusal_check::runs::run` is safe: the part lent is a front of an array.
 use native.Mathlib.Omega.{arith}
 use borrow.Author.Needs.{needs}
-use Rattle.refusal_check.proofs.Parts.{part}
+use Rattle.held.proofs.Parts.{part}
 use Rattle.refusal_check.proofs.runs.run.Statement.{statement}
 use Rattle.refusal_check.proofs.runs.run.Tie as tie
 

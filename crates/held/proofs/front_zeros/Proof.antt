@@ -1,9 +1,9 @@
--- `refusal_check::held::front_zeros` is safe and ends.
+-- `held::front_zeros` is safe and ends.
 use Prim.Native.Nat.{_-_, _≤_}
 use lib.ListN.{length}
 use borrow.Author.Needs.{needs}
-use Rattle.refusal_check.proofs.held.front_zeros.Statement.{statement}
-use Rattle.refusal_check.proofs.held.front_zeros.Tie as tie
+use Rattle.held.proofs.front_zeros.Statement.{statement}
+use Rattle.held.proofs.front_zeros.Tie as tie
 
 abbrev Inv-loop : tie.InvT-loop
 Inv-loop cells i₀ i = i ≤ length cells

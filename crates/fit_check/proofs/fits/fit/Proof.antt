@@ -1,9 +1,9 @@
--- `refusal_check::fits::fit` is safe: each part lent is a front of an array.
+-- `fit_check::fits::fit` is safe: each part lent is a front of an array.
 use native.Mathlib.Omega.{arith}
 use borrow.Author.Needs.{needs}
-use Rattle.refusal_check.proofs.Parts.{part}
-use Rattle.refusal_check.proofs.fits.fit.Statement.{statement}
-use Rattle.refusal_check.proofs.fits.fit.Tie as tie
+use Rattle.held.proofs.Parts.{part}
+use Rattle.fit_check.proofs.fits.fit.Statement.{statement}
+use Rattle.fit_check.proofs.fits.fit.Tie as tie
 
 slice-aggregate-call : tie.Need-slice-aggregate-call
 slice-aggregate-call c = search needs

@@ -1,13 +1,12 @@
 // Calls of `fit` and `predict` of both models. A row has the q 0.0, charge 1, the aligned time 0.5 and the mobility
 // 0.5.
 ghost use Prim.Native.Nat.{_≤_};
-use crate::held;
-use crate::held::CELL;
-use crate::held::CELLS;
-use crate::held::VALUE;
-use crate::held::VALUES;
-use crate::held::WORKSPACE;
 use embedding::Model;
+use held::CELL;
+use held::CELLS;
+use held::VALUE;
+use held::VALUES;
+use held::WORKSPACE;
 use models::FitAnswer;
 use models::mobility_model;
 use models::retention_model;

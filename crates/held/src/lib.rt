@@ -1,5 +1,5 @@
-// What the slices hold before a call, and what a call changed in them. They are parts of arrays, which are looked at
-// whole.
+// For the programs that make calls which are refused: what the slices hold before a call, and what a call changed in
+// them. They are parts of arrays, which are looked at whole.
 use regression::FitOutcome;
 
 // What every cell and every value holds before a call.
@@ -37,11 +37,13 @@ fn changed(n: u64, cells: &[f64]) -> u64 {
     count
 }
 
-pub(crate) fn changed64(n: u64, cells: &[f64; CELLS]) -> u64 {
+// For an output of f64.
+pub fn changed64(n: u64, cells: &[f64; CELLS]) -> u64 {
     changed(n, cells)
 }
 
-pub(crate) fn changed32(n: u64, values: &[f32; VALUES]) -> u64 {
+// For an output of f32.
+pub fn changed32(n: u64, values: &[f32; VALUES]) -> u64 {
     let mut count = n;
     for i in 0..VALUES {
         if values[i] != VALUE {
@@ -52,7 +54,7 @@ pub(crate) fn changed32(n: u64, values: &[f32; VALUES]) -> u64 {
 }
 
 // How many values of the files' records changed.
-pub(crate) fn changed_lines(
+pub fn changed_lines(
     max_rt: &[f32; VALUES],
     slope: &[f32; VALUES],
     intercept: &[f32; VALUES],
@@ -61,7 +63,7 @@ pub(crate) fn changed_lines(
 }
 
 // n, and how many cells of a model's outputs changed.
-pub(crate) fn changed_model(
+pub fn changed_model(
     n: u64,
     beta: &[f64; CELLS],
     predicted: &[f32; VALUES],
@@ -71,13 +73,13 @@ pub(crate) fn changed_model(
 }
 
 // Writes what a call left in a workspace.
-pub(crate) fn write_workspace(workspace: &[f64; WORKSPACE]) {
+pub fn write_workspace(workspace: &[f64; WORKSPACE]) {
     vectors::write_token(front_zeros(workspace) as u64);
     vectors::write_token(changed(0, workspace));
 }
 
 // The number of a fit's outcome.
-pub(crate) fn number(outcome: FitOutcome) -> u64 {
+pub fn number(outcome: FitOutcome) -> u64 {
     match outcome {
         FitOutcome::Solved { .. } => 0,
         FitOutcome::NoTrainingRows => 8,
