@@ -41,7 +41,7 @@ pub use rows::{PeptideTable, Row, Rows};
 pub use run::{run, Run};
 pub use solver::{solve, Solution};
 
-/// The limits of what may be handed in.
+/// The limits of what may be handed in: those of `crates/status`, as tests/limits.rs holds.
 pub mod limits {
     /// Of files; at least 1.
     pub const FILES: usize = 1_024;
