@@ -15,13 +15,13 @@ pub fn charge_at(charge: &[u8], i: usize) -> u8
     0
 }
 
-// The log of a peptide's mass; a NaN where the model has no logs.
+// The log of a peptide's mass, with the one NaN for every NaN, and where the model has no logs.
 pub fn log_at(logs: &[f64], p: PeptideIx) -> f64
     ensures { λ r. ⌜ r ≡ getD (now (logs .entry)) (p .0) nan ⌝ }
 {
     let i = p.0 as usize;
     if i < logs.len() {
-        return logs[i];
+        return float::canonical64(logs[i]);
     }
     0.0 / 0.0
 }

@@ -10,18 +10,29 @@ use Rattle.model_fit.proofs.design.log_at.Tie as tie
 cast-i : tie.Need-cast-i
 cast-i c = search needs
 
-mul-result : tie.Need-mul-result
-mul-result c = search needs
+mul-canonical64 : tie.Need-mul-canonical64
+mul-canonical64 c = search needs
 
-shared-slice-read-result : tie.Need-shared-slice-read-result
-shared-slice-read-result c = search needs
+shared-slice-read-canonical64 : tie.Need-shared-slice-read-canonical64
+shared-slice-read-canonical64 c = search needs
+
+canonical64-requires : tie.Need-canonical64-requires
+canonical64-requires c κs = search needs
 
 returns : tie.Need-returns
-returns c = search needs
+returns c = c .canonical64 .ensures
 
 returns-2 : tie.Need-returns-2
 unfolding div ofBits
-returns-2 c = sym (List·getD-eq-default (now (c .before .before .args .logs)) nan (c .if1 .left))
+returns-2 c = sym (List·getD-eq-default (now (c .before .before .before .args .logs)) nan (c .if1 .left))
 
 pub log-at-spec : {M : Type 1} → statement M
-log-at-spec = tie.close (tie.spec cast-i mul-result shared-slice-read-result returns returns-2)
+log-at-spec =
+    tie.close
+    (tie.spec
+    cast-i
+    mul-canonical64
+    shared-slice-read-canonical64
+    canonical64-requires
+    returns
+    returns-2)
