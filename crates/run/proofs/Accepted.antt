@@ -2,21 +2,21 @@
 use mathlib.Core.Path.{_≡_, refl, sym, ap, _∙_}
 use mathlib.Core.Bool.{Bool, true, _&&_, cond}
 use mathlib.Core.List.{List, [], _∷_}
-use Prim.Native.Nat.{ℕ, _*_, _≤_, _<_, max}
+use Prim.Native.Nat.{ℕ, _*_, _≤_, _<_}
 use native.Mathlib.Omega.{arith}
-use lib.Dec.{eqb, leb}
+use lib.Dec.{leb}
 use lib.ListN.{length, getD}
 use borrow.Author.Tests.{eq-eqb, le-leb, leb-true}
 use Rattle.status.specs.Checks.{every, lengthsAgree, allBelow}
 use Rattle.status.specs.Limits.{withinLimits, withinRowLimits, maxRows, maxPeptides}
 use Rattle.status.specs.Status.{accepted, tooShort}
-use Rattle.status.proofs.Laws.{and-true, length-at, Limits, limits}
+use Rattle.status.proofs.Laws.{and-true, length-at, limits}
 use Rattle.status.proofs.First.{passed-at}
 use Rattle.feature.proofs.Training.{Columns}
 use Rattle.peptide.specs.Table.{offsetsRight, lettersRight, tableStatus}
 use Rattle.peptide.proofs.Laws.{status-by}
 use Rattle.rt_matrix.specs.Columns.{eachLong}
-use Rattle.retention_alignment.specs.Call.{Input as AlignInput, statusBy as alignStatus}
+use Rattle.retention_alignment.specs.Call.{statusBy as alignStatus}
 use Rattle.retention_alignment.specs.declared.Room.{Room as AlignRoom}
 use Rattle.embedding.specs.Design.{orderOf}
 use Rattle.embedding.specs.declared.Model.{Model}
@@ -25,16 +25,8 @@ use Rattle.regression.specs.Workspace.{workspaceCells}
 use Rattle.model_fit.specs.Input.{Input as ModelInput, lengthsRight, statusBy as modelStatus}
 use Rattle.model_fit.proofs.Status.{status-is}
 use Rattle.models.specs.Call.{predictRoom}
-use Rattle.run.specs.Call.{
-  Input,
-  peptides,
-  columnsAgree,
-  neededCells,
-  modelLong,
-  longEnough,
-  checks,
-  statusBy,
-}
+use Rattle.run.specs.Call.{Input, peptides, neededCells, modelLong, longEnough, checks, statusBy}
+use Rattle.run.specs.Parts.{alignInput}
 use Rattle.run.specs.declared.checks.ModelRoom.{ModelRoom}
 use Rattle.run.specs.declared.checks.Room.{Room}
 
@@ -71,8 +63,13 @@ long-is f p n r e =
       mobility = d .1;
     }
 
+-- the columns that a run is passed, each as long as the first
+abbrev pub ColumnsIn : Input → Type 0
+ColumnsIn i =
+    Columns (length (i .file)) (i .file) (i .peptide) (i .label) (i .q) (i .rt) (i .charge) (i .mobility)
+
 pub record Passed (i : Input) (room : Room) : Type 0 where
-  pub columns : Columns (length (i .file)) (i .file) (i .peptide) (i .label) (i .q) (i .rt) (i .charge) (i .mobility)
+  pub columns : ColumnsIn i
   pub logs : length (i .table .logs) ≡ peptides i
   pub within : withinLimits (i .files) (length (i .file)) (peptides i) ≡ true
   pub long : Long (i .files) (peptides i) (length (i .file)) room
@@ -120,18 +117,6 @@ module _ (i : Input) (room : Room) (accept : statusBy i room ≡ accepted) where
       }
 
 -- ---- the alignment accepts
-
-abbrev pub alignInput : Input → AlignInput
-alignInput i =
-    record {
-      file = i .file;
-      peptide = i .peptide;
-      label = i .label;
-      q = i .q;
-      rt = i .rt;
-      files = i .files;
-      peptides = peptides i;
-    }
 
 abbrev alignRoom : Room → AlignRoom
 alignRoom room = record { workspace = room .workspace; records = room .records; aligned = room .aligned }

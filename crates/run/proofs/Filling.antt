@@ -1,6 +1,6 @@
 -- What an accepted run leaves, from what its three parts promise.
 use mathlib.Core.Path.{_≡_, refl, sym, ap, _∙_}
-use mathlib.Core.Bool.{Bool, true, false, cond}
+use mathlib.Core.Bool.{true, false, cond}
 use mathlib.Core.List.{List, [], _++_, map, zipWith, append-assoc}
 use Prim.Native.Nat.{ℕ, _+_, _-_, _*_, _≤_, max}
 use native.Mathlib.Decide.{decLe}
@@ -17,29 +17,28 @@ use Rattle.status.specs.Status.{accepted}
 use Rattle.float.specs.Number.{zero64}
 use Rattle.matrix.specs.Lists.{overwritten}
 use Rattle.feature.specs.Feature.{Row, training}
-use Rattle.feature.proofs.Training.{Fields}
 use Rattle.retention_alignment.specs.Call.{Slices as AlignSlices, Aligned}
 use Rattle.retention_alignment.specs.declared.AlignAnswer.{AlignAnswer}
 use Rattle.embedding.specs.Design.{orderOf}
-use Rattle.embedding.specs.declared.Model.{Model}
 use Rattle.embedding.specs.declared.Model.the-variants.{Retention, Mobility}
 use Rattle.regression.specs.Regression.{Fit, fitOf}
 use Rattle.regression.specs.Workspace.{workspaceCells}
-use Rattle.model_fit.specs.Input.{Input as ModelInput, Query, inputOf, queries, columnsAgree as modelColumns}
+use Rattle.model_fit.specs.Input.{Query, queries, columnsAgree as modelColumns}
 use Rattle.model_fit.specs.Samples.{fitOfInput}
 use Rattle.models.specs.Prediction.{predictions, errors, errorOf, isSolved, predictionOf}
-use Rattle.models.specs.Call.{ModelOutputs, PredictSlices, PredictCall, predictStatus}
+use Rattle.models.specs.Call.{PredictSlices, PredictCall, predictStatus}
 use Rattle.models.specs.declared.FitAnswer.{FitAnswer}
 use Rattle.run.specs.Fitted.{RowOutcome, ofRetention, ofMobility, rowQuery, target, fitted, outcome}
 use Rattle.run.specs.Call.{modelRoom, roomOf}
-use Rattle.run.specs.Call.{Input, Slices, rows, peptides, fittedBy, outcomes, predictionsOf, errorsOf}
+use Rattle.run.specs.Call.{Input, Slices, rows, peptides, fittedBy, outcomes, errorsOf}
 use Rattle.run.specs.Call.{outcomeOf, answerOf, toldBy, filled, Filled, slicesAfter, RunCall, status}
+use Rattle.run.specs.Parts.{alignInput, retentionInput, mobilityInput}
 use Rattle.run.specs.declared.RunAnswer.{RunAnswer}
 use Rattle.run.specs.declared.RunAnswer.the-variants.{Ran, Refused}
 use Rattle.run.proofs.Rows.{retention-queries, mobility-queries, samples-of, mobility-samples}
 use Rattle.run.proofs.Rows.{mobility-predictions, predictionsFor, predictions-written, errors-written}
-use Rattle.run.proofs.Accepted.{Passed, alignInput, model-accepts, model-room}
-use Rattle.run.proofs.Parts.{fields, marks, targets, alignSlices, AlignPart, align-part, ModelPart, model-part}
+use Rattle.run.proofs.Accepted.{ColumnsIn, Passed, align-accepts, model-accepts, model-room}
+use Rattle.run.proofs.Parts.{fields, marks, targets, AlignPart, align-part, ModelPart, model-part}
 
 -- ---- cells that are zeroed twice
 
@@ -79,63 +78,41 @@ module _ {A : Type 0} (z : A) (a b : ℕ) (ws : List A) where
 
 -- ---- the models' parts
 
-module _ (i : Input) (s : Slices) (p : Passed i (roomOf s)) where
-  -- what the models are passed, where the aligned times are these
-  abbrev pub retentionInput : List Float → ModelInput
-  retentionInput observed =
-      inputOf
-      (i .peptide) (i .label) (i .q) [] observed
-      (i .table .letters) (i .table .offsets) (i .table .masses) (i .table .logs)
-
-  abbrev pub mobilityInput : ModelInput
-  mobilityInput =
-      inputOf
-      (i .peptide) (i .label) (i .q) (i .charge) (i .mobility)
-      (i .table .letters) (i .table .offsets) (i .table .masses) []
-
-  -- and the slices that they get, with the workspace as it then is
-  abbrev pub retentionSlices : (workspace : List Float) → PredictSlices
-  retentionSlices workspace = record { workspace = workspace; outputs = s .retention }
-
-  abbrev pub mobilitySlices : (workspace : List Float) → PredictSlices
-  mobilitySlices workspace = record { workspace = workspace; outputs = s .mobility }
-
+module _ (i : Input) (k : ColumnsIn i) where
   row-count : length (rows i) ≡ length (i .file)
-  row-count = sym (length-map (rows i) (λ (r : Row). r .file)) ∙ ap length (fields i (p .columns) .files-are)
+  row-count = sym (length-map (rows i) (λ (r : Row). r .file)) ∙ ap length (fields i k .files-are)
 
   -- the aligned times that the alignment wrote are retention's targets
-  targets-written : (t : AlignSlices) → AlignPart i s t
+  pub targets-written : (s t : AlignSlices) → AlignPart i s t
       → take (length (i .file)) (t .aligned) ≡ map (target Retention (fittedBy i .records)) (rows i)
-  targets-written t a =
+  targets-written s t a =
       let n : length (map (λ (o : RowOutcome). o .aligned) (outcomes i)) ≡ length (i .file) =
       length-map (outcomes i) (λ (o : RowOutcome). o .aligned)
       ∙ length-map (rows i) (outcome (i .table) (fittedBy i))
       ∙ row-count in
-      ap (take (length (i .file))) (a .aligned) ∙ take-at _ _ (length (i .file)) n ∙ targets i s p
+      ap (take (length (i .file))) (a .aligned) ∙ take-at _ _ (length (i .file)) n ∙ targets i k
 
   queries-of-retention : queries (i .peptide) [] ≡ map (rowQuery Retention) (rows i)
   queries-of-retention =
       retention-queries
-      (rows i) (i .file) (i .peptide) (i .label) (i .q) (i .rt) (i .charge) (i .mobility)
-      (fields i (p .columns)) (marks i (p .columns))
+      (rows i) (i .file) (i .peptide) (i .label) (i .q) (i .rt) (i .charge) (i .mobility) (fields i k) (marks i k)
 
   queries-of-mobility : queries (i .peptide) (i .charge) ≡ map (rowQuery Mobility) (rows i)
   queries-of-mobility =
       mobility-queries
-      (rows i) (i .file) (i .peptide) (i .label) (i .q) (i .rt) (i .charge) (i .mobility)
-      (fields i (p .columns)) (marks i (p .columns))
+      (rows i) (i .file) (i .peptide) (i .label) (i .q) (i .rt) (i .charge) (i .mobility) (fields i k) (marks i k)
 
   module _ (observed : List Float) (o : observed ≡ map (target Retention (fittedBy i .records)) (rows i)) where
-    retention-fit : fitOfInput Retention (retentionInput observed) ≡ fittedBy i .retention
+    retention-fit : fitOfInput Retention (retentionInput i observed) ≡ fittedBy i .retention
     unfolding fitted
     retention-fit =
         ap (fitOf (orderOf Retention))
         (samples-of
         (rows i) (i .file) (i .peptide) (i .label) (i .q) (i .rt) (i .charge) (i .mobility)
-        (fields i (p .columns)) (marks i (p .columns))
+        (fields i k) (marks i k)
         Retention (i .table) (fittedBy i .records) [] observed queries-of-retention o)
 
-    retention-predictions : predictions Retention (retentionInput observed)
+    retention-predictions : predictions Retention (retentionInput i observed)
         ≡ predictionsFor ofRetention (i .table) (fittedBy i) (rows i)
     retention-predictions =
         let beta = fittedBy i .retention .coefficients in
@@ -147,55 +124,78 @@ module _ (i : Input) (s : Slices) (p : Passed i (roomOf s)) where
         ∙ ap
         (λ (x : List Query). cond solved (map (predictionOf Retention (i .table) beta) x) []) queries-of-retention
 
-    retention-errors : errors Retention (retentionInput observed) ≡ errorsOf ofRetention i
+    retention-errors : errors Retention (retentionInput i observed) ≡ errorsOf ofRetention i
     retention-errors =
         let predicted = predictionsFor ofRetention (i .table) (fittedBy i) (rows i) in
         ap (zipWith errorOf observed) retention-predictions
         ∙ ap (λ (x : List Float). zipWith errorOf x predicted) o
         ∙ errors-written ofRetention (i .table) (fittedBy i) (rows i)
 
-  mobility-fit : fitOfInput Mobility mobilityInput ≡ fittedBy i .mobility
+    -- an accepted call on such times
+    pub retention-part : (s t : PredictSlices) (r : FitAnswer)
+        → predictStatus Retention (retentionInput i observed) s ≡ accepted
+        → PredictCall Retention (retentionInput i observed) (change s t) r → ModelPart ofRetention i s t r
+    retention-part s t r accept c =
+        model-part ofRetention i (retentionInput i observed) s t r accept retention-fit
+        (retention-predictions ∙ predictions-written ofRetention (i .table) (fittedBy i) (rows i)) retention-errors c
+
+  mobility-fit : fitOfInput Mobility (mobilityInput i) ≡ fittedBy i .mobility
   unfolding fitted
   mobility-fit =
-      let f = fields i (p .columns) in
+      let f = fields i k in
       ap (fitOf (orderOf Mobility))
       (samples-of
-      (rows i) (i .file) (i .peptide) (i .label) (i .q) (i .rt) (i .charge) (i .mobility) f (marks i (p .columns))
-      Mobility (mobilityInput .table) (fittedBy i .records) (i .charge) (i .mobility)
+      (rows i) (i .file) (i .peptide) (i .label) (i .q) (i .rt) (i .charge) (i .mobility) f (marks i k)
+      Mobility (mobilityInput i .table) (fittedBy i .records) (i .charge) (i .mobility)
       queries-of-mobility (sym (f .mobilities-are))
       ∙ mobility-samples (i .table .letters) (i .table .offsets) (i .table .masses) (i .table .logs)
       (fittedBy i .records) (training (rows i)))
 
-  mobility-predicted : predictions Mobility mobilityInput
+  mobility-predicted : predictions Mobility (mobilityInput i)
       ≡ predictionsFor ofMobility (i .table) (fittedBy i) (rows i)
   mobility-predicted =
       let beta = fittedBy i .mobility .coefficients in
       let solved = isSolved (fittedBy i .mobility .outcome) in
       let asked = queries (i .peptide) (i .charge) in
       ap (λ (x : Fit).
-      cond (isSolved (x .outcome)) (map (predictionOf Mobility (mobilityInput .table) (x .coefficients)) asked) [])
+      cond (isSolved (x .outcome)) (map (predictionOf Mobility (mobilityInput i .table) (x .coefficients)) asked) [])
       mobility-fit
       ∙ ap (λ (x : List Float). cond solved x [])
       (mobility-predictions (i .table .letters) (i .table .offsets) (i .table .masses) (i .table .logs) beta asked)
       ∙ ap (λ (x : List Query). cond solved (map (predictionOf Mobility (i .table) beta) x) []) queries-of-mobility
 
-  mobility-errors : errors Mobility mobilityInput ≡ errorsOf ofMobility i
+  mobility-errors : errors Mobility (mobilityInput i) ≡ errorsOf ofMobility i
   mobility-errors =
       let predicted = predictionsFor ofMobility (i .table) (fittedBy i) (rows i) in
       ap (zipWith errorOf (i .mobility)) mobility-predicted
-      ∙ ap (λ (x : List Float). zipWith errorOf x predicted) (sym (fields i (p .columns) .mobilities-are))
+      ∙ ap (λ (x : List Float). zipWith errorOf x predicted) (sym (fields i k .mobilities-are))
       ∙ errors-written ofMobility (i .table) (fittedBy i) (rows i)
 
-  -- ---- the models accept
+  pub mobility-part : (s t : PredictSlices) (r : FitAnswer)
+      → predictStatus Mobility (mobilityInput i) s ≡ accepted
+      → PredictCall Mobility (mobilityInput i) (change s t) r → ModelPart ofMobility i s t r
+  mobility-part s t r accept c =
+      model-part ofMobility i (mobilityInput i) s t r accept mobility-fit
+      (mobility-predicted ∙ predictions-written ofMobility (i .table) (fittedBy i) (rows i)) mobility-errors c
+
+-- ---- the models accept
+
+module _ (i : Input) (s : Slices) (p : Passed i (roomOf s)) where
+  -- the slices that they get, with the workspace as it then is
+  abbrev retentionSlices : (workspace : List Float) → PredictSlices
+  retentionSlices workspace = record { workspace = workspace; outputs = s .retention }
+
+  abbrev mobilitySlices : (workspace : List Float) → PredictSlices
+  mobilitySlices workspace = record { workspace = workspace; outputs = s .mobility }
 
   retention-accepts : (observed ws : List Float) → length observed ≡ length (i .file)
       → length ws ≡ length (s .workspace)
-      → predictStatus Retention (retentionInput observed) (retentionSlices ws) ≡ accepted
+      → predictStatus Retention (retentionInput i observed) (retentionSlices ws) ≡ accepted
   unfolding modelColumns every
   retention-accepts observed ws e w =
       let k = p .columns in
       let n = sym (k .peptides-long) in
-      model-accepts i (roomOf s) p Retention (retentionInput observed) _ refl refl refl refl
+      model-accepts i (roomOf s) p Retention (retentionInput i observed) _ refl refl refl refl
       (rw (
         eq-eqb (length (i .label)) (length (i .peptide)) (k .labels-long ∙ n),
         eq-eqb (length (i .q)) (length (i .peptide)) (k .qs-long ∙ n),
@@ -207,12 +207,12 @@ module _ (i : Input) (s : Slices) (p : Passed i (roomOf s)) where
       (omega (arith, p .long .fit-cells)))
 
   mobility-accepts : (ws : List Float) → length ws ≡ length (s .workspace)
-      → predictStatus Mobility mobilityInput (mobilitySlices ws) ≡ accepted
+      → predictStatus Mobility (mobilityInput i) (mobilitySlices ws) ≡ accepted
   unfolding modelColumns every
   mobility-accepts ws w =
       let k = p .columns in
       let n = sym (k .peptides-long) in
-      model-accepts i (roomOf s) p Mobility mobilityInput _ refl refl refl refl
+      model-accepts i (roomOf s) p Mobility (mobilityInput i) _ refl refl refl refl
       (rw (
         eq-eqb (length (i .label)) (length (i .peptide)) (k .labels-long ∙ n),
         eq-eqb (length (i .q)) (length (i .peptide)) (k .qs-long ∙ n),
@@ -225,16 +225,19 @@ module _ (i : Input) (s : Slices) (p : Passed i (roomOf s)) where
 
   -- ---- all together
 
+  abbrev alignSlices : AlignSlices
+  alignSlices = record { workspace = s .workspace; records = s .records; aligned = s .aligned }
+
   -- the alignment left t, retention's call t₁, mobility's t₂
   pub run-filled : (t : AlignSlices) (answer : AlignAnswer)
-      → Aligned (alignInput i) (change (alignSlices s) t) answer
+      → Aligned (alignInput i) (change alignSlices t) answer
       → length (t .workspace) ≡ length (s .workspace) → length (t .aligned) ≡ length (s .aligned)
       → (t₁ : PredictSlices) (r₁ : FitAnswer)
-      → PredictCall Retention (retentionInput (take (length (i .file)) (t .aligned)))
+      → PredictCall Retention (retentionInput i (take (length (i .file)) (t .aligned)))
       (change (retentionSlices (t .workspace)) t₁) r₁
       → length (t₁ .workspace) ≡ length (s .workspace)
       → (t₂ : PredictSlices) (r₂ : FitAnswer)
-      → PredictCall Mobility mobilityInput (change (mobilitySlices (t₁ .workspace)) t₂) r₂
+      → PredictCall Mobility (mobilityInput i) (change (mobilitySlices (t₁ .workspace)) t₂) r₂
       → Filled i (change s (record {
         workspace = t₂ .workspace;
         records = t .records;
@@ -245,23 +248,15 @@ module _ (i : Input) (s : Slices) (p : Passed i (roomOf s)) where
   unfolding filled
   run-filled t answer c lw la t₁ r₁ c₁ l₁ t₂ r₂ c₂ =
       let n : ℕ = length (i .file) in
-      let a : AlignPart i s t = align-part i s p t answer c in
+      let a : AlignPart i alignSlices t =
+      align-part i (p .columns) alignSlices t answer (align-accepts i (roomOf s) p) c in
       let times : List Float = take n (t .aligned) in
-      let o = targets-written t a in
+      let long = length-take-le n (t .aligned) (omega (arith, p .long .aligned)) in
       let x : ModelPart ofRetention i (retentionSlices (t .workspace)) t₁ r₁ =
-      model-part ofRetention i (retentionInput times) (retentionSlices (t .workspace)) t₁ r₁
-      (retention-accepts times (t .workspace) (length-take-le n (t .aligned) (omega (arith, p .long .aligned))) lw)
-      (retention-fit times o)
-      (retention-predictions times o ∙ predictions-written ofRetention (i .table) (fittedBy i) (rows i))
-      (retention-errors times o)
-      c₁ in
+      retention-part i (p .columns) times (targets-written i (p .columns) alignSlices t a)
+      (retentionSlices (t .workspace)) t₁ r₁ (retention-accepts times (t .workspace) long lw) c₁ in
       let y : ModelPart ofMobility i (mobilitySlices (t₁ .workspace)) t₂ r₂ =
-      model-part ofMobility i mobilityInput (mobilitySlices (t₁ .workspace)) t₂ r₂
-      (mobility-accepts (t₁ .workspace) l₁)
-      mobility-fit
-      (mobility-predicted ∙ predictions-written ofMobility (i .table) (fittedBy i) (rows i))
-      mobility-errors
-      c₂ in
+      mobility-part i (p .columns) (mobilitySlices (t₁ .workspace)) t₂ r₂ (mobility-accepts (t₁ .workspace) l₁) c₂ in
       let cells : ℕ = peptides i * i .files in
       let first : ℕ = workspaceCells (orderOf Retention) in
       let second : ℕ = workspaceCells (orderOf Mobility) in

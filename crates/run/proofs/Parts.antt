@@ -1,23 +1,22 @@
 -- What each part of an accepted run leaves, in the run's own words: the alignment, and the fit and the predictions of
 -- either model.
-use mathlib.Core.Path.{_≡_, refl, sym, ap, _∙_}
+use mathlib.Core.Path.{_≡_, sym, ap, _∙_}
 use mathlib.Core.List.{List, map}
 use Prim.Native.Nat.{ℕ, _*_}
-use lib.Dec.{eqb}
 use lib.Ieee.{Float}
 use lib.ListN.{length, replicate}
 use Rattle.params.specs.Slice.{change}
 use Rattle.status.specs.Status.{accepted}
-use Rattle.status.specs.Told.{ifAccepted}
+use Rattle.status.proofs.Told.{if-accepted}
 use Rattle.float.specs.Number.{zero64}
 use Rattle.matrix.specs.Lists.{overwritten}
-use Rattle.feature.specs.Feature.{Row, rowTrains, training, mask, kept}
-use Rattle.feature.proofs.Training.{Columns, Fields, fields-rowsFrom, mask-rowsFrom}
+use Rattle.feature.specs.Feature.{rowTrains, training, mask, kept}
+use Rattle.feature.proofs.Training.{Fields, fields-rowsFrom, mask-rowsFrom}
 use Rattle.rt_matrix.specs.Columns.{columnsOf, writtenOver}
 use Rattle.rt_matrix.specs.declared.Alignment.{Alignment}
 use Rattle.retention_alignment.specs.Observation.{Obs, observations, maxRts}
 use Rattle.retention_alignment.specs.Alignments.{alignments, aligned}
-use Rattle.retention_alignment.specs.Call.{Slices as AlignSlices, Aligned, recordsFor}
+use Rattle.retention_alignment.specs.Call.{Slices as AlignSlices, Aligned, recordsFor, status as alignStatus}
 use Rattle.retention_alignment.specs.Call.{filled as alignFilled, slicesAfter as alignAfter}
 use Rattle.retention_alignment.specs.declared.AlignAnswer.{AlignAnswer}
 use Rattle.embedding.specs.Design.{orderOf}
@@ -32,15 +31,15 @@ use Rattle.models.specs.declared.FitAnswer.{FitAnswer}
 use Rattle.models.specs.declared.FitAnswer.the-variants.{Fitted}
 use Rattle.run.specs.Fitted.{RowOutcome, obsOf, target, longest, fileRecords, fitted, outcome}
 use Rattle.run.specs.Fitted.{Part, modelOf, fitOfPart}
-use Rattle.run.specs.Call.{Input, Slices, rows, peptides, roomOf, fittedBy, outcomes}
+use Rattle.run.specs.Call.{Input, rows, peptides, fittedBy, outcomes}
 use Rattle.run.specs.Call.{predictionsOf, errorsOf, filledModel}
+use Rattle.run.specs.Parts.{alignInput}
 use Rattle.run.proofs.Rows.{rows-observed, training-observed, map-twice}
-use Rattle.run.proofs.Accepted.{Passed, alignInput, align-accepts}
+use Rattle.run.proofs.Accepted.{ColumnsIn}
 
 -- ---- the columns of the rows
 
-module _ (i : Input)
-    (k : Columns (length (i .file)) (i .file) (i .peptide) (i .label) (i .q) (i .rt) (i .charge) (i .mobility)) where
+module _ (i : Input) (k : ColumnsIn i) where
   pub fields : Fields (rows i) (i .file) (i .peptide) (i .label) (i .q) (i .rt) (i .charge) (i .mobility)
   fields =
       fields-rowsFrom
@@ -62,24 +61,14 @@ module _ (i : Input)
       training-observed
       (rows i) (i .file) (i .peptide) (i .label) (i .q) (i .rt) (i .charge) (i .mobility) fields marks
 
--- ---- the alignment
+  -- ---- the alignment
 
-abbrev pub alignSlices : Slices → AlignSlices
-alignSlices s = record { workspace = s .workspace; records = s .records; aligned = s .aligned }
-
-pub record AlignPart (i : Input) (s : Slices) (t : AlignSlices) : Type 0 where
-  pub workspace : t .workspace ≡ overwritten (replicate (peptides i * i .files) zero64) (s .workspace)
-  pub records : t .records ≡ writtenOver (columnsOf (fittedBy i .records)) (s .records)
-  pub aligned : t .aligned ≡ overwritten (map (λ (o : RowOutcome). o .aligned) (outcomes i)) (s .aligned)
-
-module _ (i : Input) (s : Slices) (p : Passed i (roomOf s)) where
   records-are : recordsFor (alignInput i) ≡ fittedBy i .records
   unfolding fitted fileRecords
   records-are =
       let trained = kept (mask (i .label) (i .q)) (observations (i .file) (i .peptide) (i .rt)) in
-      ap (λ (os : List Obs). alignments (i .files) (peptides i) (maxRts (i .files) os) trained)
-      (observed-rows i (p .columns))
-      ∙ ap (alignments (i .files) (peptides i) (longest (i .files) (rows i))) (observed-training i (p .columns))
+      ap (λ (os : List Obs). alignments (i .files) (peptides i) (maxRts (i .files) os) trained) observed-rows
+      ∙ ap (alignments (i .files) (peptides i) (longest (i .files) (rows i))) observed-training
 
   -- each row's aligned time, as retention's target
   pub targets : map (λ (o : RowOutcome). o .aligned) (outcomes i)
@@ -90,31 +79,32 @@ module _ (i : Input) (s : Slices) (p : Passed i (roomOf s)) where
   aligned-are : map (aligned (recordsFor (alignInput i))) (observations (i .file) (i .peptide) (i .rt))
       ≡ map (λ (o : RowOutcome). o .aligned) (outcomes i)
   aligned-are =
-      ap (λ (os : List Obs). map (aligned (recordsFor (alignInput i))) os) (observed-rows i (p .columns))
+      ap (λ (os : List Obs). map (aligned (recordsFor (alignInput i))) os) observed-rows
       ∙ ap (λ (a : List Alignment). map (aligned a) (map obsOf (rows i))) records-are
       ∙ map-twice (aligned (fittedBy i .records)) obsOf (rows i)
       ∙ sym targets
 
-  align-filled : alignAfter (alignInput i) (alignSlices s) ≡ alignFilled (alignInput i) (alignSlices s)
-  unfolding alignAfter
-  align-filled =
-      ap (λ (n : ℕ). ifAccepted n (alignFilled (alignInput i) (alignSlices s)) (alignSlices s))
-      (align-accepts i (roomOf s) p)
+-- what an accepted alignment leaves, by the run's definitions
+pub record AlignPart (i : Input) (s t : AlignSlices) : Type 0 where
+  pub workspace : t .workspace ≡ overwritten (replicate (peptides i * i .files) zero64) (s .workspace)
+  pub records : t .records ≡ writtenOver (columnsOf (fittedBy i .records)) (s .records)
+  pub aligned : t .aligned ≡ overwritten (map (λ (o : RowOutcome). o .aligned) (outcomes i)) (s .aligned)
 
-  pub align-part : (t : AlignSlices) (r : AlignAnswer) → Aligned (alignInput i) (change (alignSlices s) t) r
-      → AlignPart i s t
-  unfolding alignFilled
-  align-part t r c =
-      let after-is : t ≡ alignFilled (alignInput i) (alignSlices s) = c .slices ∙ align-filled in
-      record {
-        workspace = ap (λ (x : AlignSlices). x .workspace) after-is;
-        records =
-            ap (λ (x : AlignSlices). x .records) after-is
-            ∙ ap (λ (a : List Alignment). writtenOver (columnsOf a) (s .records)) records-are;
-        aligned =
-            ap (λ (x : AlignSlices). x .aligned) after-is
-            ∙ ap (λ (x : List Float). overwritten x (s .aligned)) aligned-are;
-      }
+pub align-part : (i : Input) → ColumnsIn i → (s t : AlignSlices) (r : AlignAnswer)
+    → alignStatus (alignInput i) s ≡ accepted → Aligned (alignInput i) (change s t) r → AlignPart i s t
+unfolding alignFilled alignAfter
+align-part i k s t r accept c =
+    let after-is : t ≡ alignFilled (alignInput i) s =
+    c .slices ∙ if-accepted (alignStatus (alignInput i) s) (alignFilled (alignInput i) s) s accept in
+    record {
+      workspace = ap (λ (x : AlignSlices). x .workspace) after-is;
+      records =
+          ap (λ (x : AlignSlices). x .records) after-is
+          ∙ ap (λ (a : List Alignment). writtenOver (columnsOf a) (s .records)) (records-are i k);
+      aligned =
+          ap (λ (x : AlignSlices). x .aligned) after-is
+          ∙ ap (λ (x : List Float). overwritten x (s .aligned)) (aligned-are i k);
+    }
 
 -- ---- a model
 
@@ -134,7 +124,7 @@ module _ (part : Part) (i : Input) (m : ModelInput) (s t : PredictSlices) (r : F
       let model = modelOf part in
       let o = s .outputs in
       let after-is : t ≡ predictFilled model m s =
-      c .slices ∙ ap (λ (n : ℕ). ifAccepted n (predictFilled model m s) s) accept in
+      c .slices ∙ if-accepted (predictStatus model m s) (predictFilled model m s) s accept in
       let coefficients-are = ap (λ (f : Fit). overwritten (f .coefficients) (o .coefficients)) fit in
       let predicted-are = ap (λ (x : List Float). overwritten x (o .predicted)) predictions-are in
       let error-are = ap (λ (x : List Float). overwritten x (o .error)) errors-are in
