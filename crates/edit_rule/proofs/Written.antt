@@ -1,250 +1,161 @@
--- Demand 3: rows outside the training set can't move a fitted number or another row's result. What is supposed and
--- what is claimed stands in specs/Ends.antt, tied there clause by clause to document 01's sentences. The idea: each end
--- wrote what the definition gives from file count, table, longest times and training rows (by the contract of `run`),
--- and these are the same at both ends.
-use mathlib.Core.Path.{_≡_, refl, sym, ap, _∙_}
-use mathlib.Core.Bool.{true}
+-- What an end was passed met the checks, and its outputs hold what the run's definitions give, written over what they
+-- held: of one call by the contract of `run`, of three by theirs, whatever their workspaces.
+use mathlib.Core.Path.{_≡_, refl, ap, ap₂, _∙_}
+use mathlib.Core.Bool.{Bool, true}
 use mathlib.Core.List.{List, [], _∷_, map}
-use mathlib.Core.Option.{Option, none, some}
-use Prim.Native.Nat.{ℕ, zero, suc, _<_}
-use native.Mathlib.Nat.{le-of-suc-le-suc, not-suc-le-zero}
-use lib.Ieee.{Float, nan}
-use lib.ListN.{length, getD, take, drop, length-map, List·getD-append}
-use lib.Seq.{take-at}
-use borrow.Author.Tests.{not-true}
-use Rattle.status.specs.Told.{ifAccepted}
+use Prim.Native.Nat.{ℕ, _<_}
+use native.Mathlib.Omega.{arith}
+use lib.Ieee.{Float}
+use lib.ListN.{length, getD, take}
+use Rattle.status.specs.Checks.{every, lengthsAgree, allBelow}
+use Rattle.status.proofs.Laws.{length-at}
+use Rattle.status.proofs.First.{passed-at}
+use Rattle.status.proofs.Told.{if-accepted}
 use Rattle.matrix.specs.Lists.{overwritten}
-use Rattle.matrix.proofs.Lists.{length-tabulate}
-use Rattle.feature.specs.Feature.{Row, rowTrains, outside, training}
-use Rattle.edits.specs.Edits.{noRow, rowAt}
-use Rattle.edits.proofs.Edits.{kept-by}
-use Rattle.peptide.specs.Table.{Table}
-use Rattle.embedding.specs.Design.{orderOf}
-use Rattle.embedding.specs.declared.Model.the-variants.{Retention, Mobility}
-use Rattle.rt_matrix.specs.Line.{lines}
-use Rattle.rt_matrix.specs.Columns.{columnsOf, firstOf}
-use Rattle.rt_matrix.proofs.RecordColumns.{first-written}
-use Rattle.retention_alignment.specs.Observation.{maxRts}
-use Rattle.retention_alignment.specs.Alignments.{alignments}
-use Rattle.models.specs.Call.{ModelOutputs}
-use Rattle.models.specs.Prediction.{isSolved}
-use Rattle.run.specs.Fitted.{Part, ofRetention, ofMobility, modelOf, fitOfPart, resultBy, resultOf}
-use Rattle.run.specs.Fitted.{Fitted, Predicted, RowOutcome, longest, fileRecords, fitted, outcome}
-use Rattle.run.specs.Call.{Slices, rows, answerOf, outcomes, predictedOf, filledModel, filled, slicesAfter}
+use Rattle.embedding.specs.declared.Model.the-variants.{Mobility}
+use Rattle.rt_matrix.specs.Columns.{FileColumns, columnsOf, writtenOver}
+use Rattle.retention_alignment.specs.Call.{checks as alignChecks, roomOf as alignRoom, statusBy as alignStatusBy}
+use Rattle.model_fit.specs.Input.{columnsAgree, checks as modelChecks, statusBy as modelStatusBy}
+use Rattle.models.specs.Call.{ModelOutputs, predictRoomIn}
+use Rattle.run.specs.Fitted.{Part, ofRetention, ofMobility, RowOutcome}
+use Rattle.run.specs.Call.{Input, Slices, peptides, roomOf, fittedBy, status, answerOf, outcomes}
+use Rattle.run.specs.Call.{filledModel, filled, slicesAfter}
+use Rattle.run.specs.Parts.{alignInput, mobilityInput}
 use Rattle.run.specs.declared.RunAnswer.the-variants.{Ran}
-use Rattle.run.proofs.Outcomes.{result-solved, results-solved}
-use Rattle.edit_rule.specs.Ends.{End, EditedOutside, SameFitted, SameRow, ByDefinition, Unmoved, definition}
-use Rattle.edit_rule.specs.Ends.{writtenBy, fits, writtenFor, outcomeAt}
-use Rattle.edit_rule.proofs.Width.{length-coefficients}
+use Rattle.run.proofs.Accepted.{ColumnsIn, passed}
+use Rattle.run.proofs.Parts.{AlignPart, align-part, ModelPart}
+use Rattle.run.proofs.Filling.{targets-written, retention-part, mobility-part}
+use Rattle.edit_rule.specs.Ends.{RunEnd, CallsEnd, End, ofRun, ofCalls, Shown, shown, answersOf}
+use Rattle.edit_rule.specs.EditsOutside.{writtenBy}
 
--- ---- cells of a column, and cells that were written over
+pub record Wrote (s : Shown) : Type 0 where
+  pub columns : ColumnsIn (s .input)
+  pub peptide-numbers : allBelow (peptides (s .input)) (s .input .peptide) ≡ true
+  pub answer : s .answer ≡ Ran (fittedBy (s .input) .retention .outcome) (fittedBy (s .input) .mobility .outcome)
+  pub held-records : FileColumns
+  pub records : s .records ≡ writtenOver (columnsOf (fittedBy (s .input) .records)) held-records
+  pub held-aligned : List Float
+  pub aligned : s .aligned
+      ≡ overwritten (map (λ (o : RowOutcome). o .aligned) (outcomes (s .input))) held-aligned
+  pub held : Part → ModelOutputs
+  pub outputs : (part : Part) → writtenBy part s ≡ filledModel part (s .input) (held part)
 
-getD-mapped : {A B : Type 0} (f : A → B) (xs : List A) (k : ℕ) (a : A) (b : B) → k < length xs
-    → getD (map f xs) k b ≡ f (getD xs k a)
-getD-mapped f [] k a b h = absurd (not-suc-le-zero h)
-getD-mapped f (x ∷ xs) zero a b h = refl
-getD-mapped f (x ∷ xs) (suc k) a b h = getD-mapped f xs k a b (le-of-suc-le-suc h)
-
-module _ {A : Type 0} (whole new old : List A) (e : whole ≡ overwritten new old) where
-  front : (n : ℕ) → length new ≡ n → take n whole ≡ new
-  front n l = ap (take n) e ∙ take-at new (drop (length new) old) n l
-
-  cell : (k : ℕ) (d : A) → k < length new → getD whole k d ≡ getD new k d
-  cell k d h = ap (λ (t : List A). getD t k d) e ∙ List·getD-append new (drop (length new) old) d k h
-
--- cells that a column of some list was written to: the k-th is that of the list's k-th element
-written-at : {A B : Type 0} (f : A → B) (xs : List A) (whole old : List B) → whole ≡ overwritten (map f xs) old
-    → (k : ℕ) (a : A) (b : B) → k < length xs → getD whole k b ≡ f (getD xs k a)
-written-at f xs whole old e k a b h =
-    cell whole (map f xs) old e k b (rw (length-map xs f) h) ∙ getD-mapped f xs k a b h
-
--- ---- an end wrote what the definition gives
-
-module _ (e : End) where
-  after-is : e .after ≡ filled (e .input) (e .before)
+-- one call
+module _ (e : RunEnd) where
+  after-is : e .call .after ≡ filled (e .input) (e .call .before)
   unfolding slicesAfter
   after-is =
-      e .contract .slices
-      ∙ ap (λ (s : ℕ). ifAccepted s (filled (e .input) (e .before)) (e .before)) (e .unrefused)
+      e .call .contract .slices
+      ∙ if-accepted (status (e .input) (e .call .before)) (filled (e .input) (e .call .before)) (e .call .before)
+      (e .call .unrefused)
 
-  answer-is : e .answer ≡ Ran (definition e .retention .outcome) (definition e .mobility .outcome)
-  unfolding answerOf
-  answer-is = e .contract .answer ∙ ap (λ (s : ℕ). answerOf s (definition e)) (e .unrefused)
+  held-by : Part → ModelOutputs
+  held-by ofRetention = e .call .before .retention
+  held-by ofMobility = e .call .before .mobility
 
-  -- a record for each file
-  count : length (definition e .records) ≡ e .input .files
-  unfolding fitted fileRecords alignments lines maxRts
-  count = length-tabulate _ _ ∙ length-tabulate (e .input .files) _
+  outputs-by : (part : Part) → writtenBy part (shown (ofRun e)) ≡ filledModel part (e .input) (held-by part)
+  unfolding filled held-by
+  outputs-by ofRetention = ap (λ (s : Slices). s .retention) after-is
+  outputs-by ofMobility = ap (λ (s : Slices). s .mobility) after-is
 
-  records-are : firstOf (e .input .files) (e .after .records) ≡ columnsOf (definition e .records)
-  unfolding filled
-  records-are =
-      ap (λ (s : Slices). firstOf (e .input .files) (s .records)) after-is
-      ∙ first-written (e .input .files) (e .before .records) (definition e .records) count
-
-  -- the model fits, by the answer and by the definition
-  solved-is : (part : Part) → fits part (e .answer) ≡ true
-      → isSolved (fitOfPart part (definition e) .outcome) ≡ true
-  solved-is ofRetention h = sym (ap (fits ofRetention) answer-is) ∙ h
-  solved-is ofMobility h = sym (ap (fits ofMobility) answer-is) ∙ h
-
-  outputs-are : (part : Part) → writtenBy part (e .after) ≡ filledModel part (e .input) (writtenBy part (e .before))
-  unfolding filled
-  outputs-are ofRetention = ap (λ (s : Slices). s .retention) after-is
-  outputs-are ofMobility = ap (λ (s : Slices). s .mobility) after-is
-
-  -- a coefficient for each column
-  coefficients-count : (part : Part) → isSolved (fitOfPart part (definition e) .outcome) ≡ true
-      → length (fitOfPart part (definition e) .coefficients) ≡ orderOf (modelOf part)
-  unfolding fitted
-  coefficients-count ofRetention h = length-coefficients (orderOf Retention) _ h
-  coefficients-count ofMobility h = length-coefficients (orderOf Mobility) _ h
-
-  coefficients-are : (part : Part) → fits part (e .answer) ≡ true
-      → take (orderOf (modelOf part)) (writtenBy part (e .after) .coefficients)
-      ≡ fitOfPart part (definition e) .coefficients
-  coefficients-are part h =
-      front
-      (writtenBy part (e .after) .coefficients)
-      (fitOfPart part (definition e) .coefficients)
-      (writtenBy part (e .before) .coefficients)
-      (ap (λ (s : ModelOutputs). s .coefficients) (outputs-are part))
-      (orderOf (modelOf part))
-      (coefficients-count part (solved-is part h))
-
-  -- ---- a row's results
-
-  module _ (k : ℕ) (l : k < length (rows (e .input))) where
-    aligned-at : getD (e .after .aligned) k nan ≡ outcomeAt e k .aligned
-    unfolding filled
-    aligned-at =
-        let f : Row → RowOutcome = outcome (e .input .table) (definition e) in
-        let aligned : RowOutcome → Float = λ o. o .aligned in
-        written-at aligned (outcomes (e .input)) (e .after .aligned) (e .before .aligned)
-        (ap (λ (s : Slices). s .aligned) after-is) k (f noRow) nan (rw (length-map (rows (e .input)) f) l)
-        ∙ ap aligned (getD-mapped f (rows (e .input)) k noRow (f noRow) l)
-
-    module _ (part : Part) (h : fits part (e .answer) ≡ true) where
-      abbrev result : Row → Predicted
-      result = resultBy part (e .input .table) (definition e)
-
-      results-are : predictedOf part (e .input) ≡ map result (rows (e .input))
-      results-are = results-solved (e .input .table) (definition e) part (rows (e .input)) (solved-is part h)
-
-      -- a field of the results, from the cells that hold it
-      field-at : (field : Predicted → Float) (whole old : List Float)
-          → whole ≡ overwritten (map field (predictedOf part (e .input))) old
-          → getD whole k nan ≡ field (result (rowAt (rows (e .input)) k))
-      field-at field whole old w =
-          let n : length (predictedOf part (e .input)) ≡ length (rows (e .input)) =
-          ap length results-are ∙ length-map (rows (e .input)) result in
-          written-at field (predictedOf part (e .input)) whole old w k (result noRow) nan (rw n l)
-          ∙ ap field
-          (ap (λ (t : List Predicted). getD t k (result noRow)) results-are
-          ∙ getD-mapped result (rows (e .input)) k noRow (result noRow) l)
-
-      predicted-at : some (writtenFor part e k) ≡ resultOf part (outcomeAt e k)
-      predicted-at =
-          let s = writtenBy part (e .before) in
-          let t = writtenBy part (e .after) in
-          let p =
-          field-at (λ (x : Predicted). x .prediction) (t .predicted) (s .predicted)
-          (ap (λ (x : ModelOutputs). x .predicted) (outputs-are part)) in
-          let x =
-          field-at (λ (x : Predicted). x .error) (t .error) (s .error)
-          (ap (λ (x : ModelOutputs). x .error) (outputs-are part)) in
-          rw (p, x)
-          (sym (result-solved (e .input .table) (definition e) part (rowAt (rows (e .input)) k) (solved-is part h)))
-
-  by-definition : ByDefinition e
-  by-definition =
+  run-wrote : Wrote (shown (ofRun e))
+  unfolding answerOf filled
+  run-wrote =
+      let p = passed (e .input) (roomOf (e .call .before)) (e .call .unrefused) in
       record {
-        records = records-are;
-        answer = answer-is;
-        coefficients = coefficients-are;
-        aligned = aligned-at;
-        predicted = λ part k h l. predicted-at k l part h;
+        columns = p .columns;
+        peptide-numbers = p .peptide-numbers;
+        answer =
+            e .call .contract .answer ∙ ap (λ (n : ℕ). answerOf n (fittedBy (e .input))) (e .call .unrefused);
+        held-records = e .call .before .records;
+        records = ap (λ (s : Slices). s .records) after-is;
+        held-aligned = e .call .before .aligned;
+        aligned = ap (λ (s : Slices). s .aligned) after-is;
+        held = held-by;
+        outputs = outputs-by;
       }
 
--- ---- the two ends
+-- three calls
+module _ (e : CallsEnd) where
+  abbrev i : Input
+  i = e .input
 
-some-is : {A : Type 0} (d : A) → Option A → A
-some-is d none = d
-some-is d (some x) = x
+  -- the checks of the alignment, and of mobility's call
+  abbrev checks-of-align : List (ℕ × Bool)
+  checks-of-align = alignChecks (alignInput i) (alignRoom (e .alignment .before))
 
-module _ (a b : End) (s : EditedOutside a b) where
-  same-training : training (rows (b .input)) ≡ training (rows (a .input))
-  same-training =
-      ap training (s .edited)
-      ∙ kept-by outside rowTrains (λ r. not-true (rowTrains r)) (s .edits) (rows (a .input)) (s .outside)
+  abbrev checks-of-mobility : List (ℕ × Bool)
+  checks-of-mobility =
+      let m = mobilityInput i in
+      modelChecks Mobility m (predictRoomIn Mobility m (e .mobility .before))
 
-  same-definition : definition b ≡ definition a
-  same-definition =
-      let t = training (rows (b .input)) in
-      let m = longest (b .input .files) (rows (b .input)) in
-      ap (λ (f : ℕ). fitted f (b .input .table) m t) (s .files)
-      ∙ ap (λ (x : Table). fitted (a .input .files) x m t) (s .table)
-      ∙ ap (λ (x : List ℕ). fitted (a .input .files) (a .input .table) x t) (s .longests)
-      ∙ ap (fitted (a .input .files) (a .input .table) (longest (a .input .files) (rows (a .input)))) same-training
+  align-check : (k : ℕ) → k < 5 → getD checks-of-align k (0, true) .1 ≡ true
+  unfolding alignStatusBy every
+  align-check k h = passed-at checks-of-align k refl (e .alignment .unrefused) h
 
-  same-answer : b .answer ≡ a .answer
-  same-answer =
-      answer-is b
-      ∙ ap (λ (f : Fitted). Ran (f .retention .outcome) (f .mobility .outcome)) same-definition
-      ∙ sym (answer-is a)
+  mobility-check : (k : ℕ) → k < 6 → getD checks-of-mobility k (0, true) .1 ≡ true
+  unfolding modelStatusBy every
+  mobility-check k h = passed-at checks-of-mobility k refl (e .mobility .unrefused) h
 
-  fits-too : (part : Part) → fits part (a .answer) ≡ true → fits part (b .answer) ≡ true
-  fits-too part h = ap (fits part) same-answer ∙ h
-
-  same-fitted : SameFitted a b
-  same-fitted =
-      let x = by-definition a in
-      let y = by-definition b in
+  columns : ColumnsIn i
+  unfolding columnsAgree
+  columns =
+      let n : ℕ = length (i .file) in
+      let ls : List ℕ = length (i .peptide) ∷ length (i .label) ∷ length (i .q) ∷ length (i .rt) ∷ [] in
+      let ms : List ℕ = length (i .label) ∷ length (i .q) ∷ length (i .charge) ∷ length (i .mobility) ∷ [] in
+      let a : lengthsAgree n ls ≡ true = align-check 0 (omega arith) in
+      let m : lengthsAgree (length (i .peptide)) ms ≡ true = mobility-check 0 (omega arith) in
+      let p = length-at n ls 0 a (omega arith) in
       record {
-        records =
-            ap (λ (n : ℕ). firstOf n (b .after .records)) (sym (s .files))
-            ∙ y .records
-            ∙ ap (λ (d : Fitted). columnsOf (d .records)) same-definition
-            ∙ sym (x .records);
-        answer = same-answer;
-        coefficients = λ part h.
-            y .coefficients part (fits-too part h)
-            ∙ ap (λ (d : Fitted). fitOfPart part d .coefficients) same-definition
-            ∙ sym (x .coefficients part h);
+        files-long = refl;
+        peptides-long = p;
+        labels-long = length-at n ls 1 a (omega arith);
+        qs-long = length-at n ls 2 a (omega arith);
+        rts-long = length-at n ls 3 a (omega arith);
+        charges-long = length-at (length (i .peptide)) ms 2 m (omega arith) ∙ p;
+        mobilities-long = length-at (length (i .peptide)) ms 3 m (omega arith) ∙ p;
       }
 
-  -- the row k of a is the row l of b
-  module _ (k l : ℕ) (hk : k < length (rows (a .input))) (hl : l < length (rows (b .input)))
-      (same : rowAt (rows (a .input)) k ≡ rowAt (rows (b .input)) l) where
-    same-outcome : outcomeAt b l ≡ outcomeAt a k
-    same-outcome =
-        ap (λ (t : Table). outcome t (definition b) (rowAt (rows (b .input)) l)) (s .table)
-        ∙ ap (λ (d : Fitted). outcome (a .input .table) d (rowAt (rows (b .input)) l)) same-definition
-        ∙ ap (outcome (a .input .table) (definition a)) (sym same)
+  align-wrote : AlignPart i (e .alignment .before) (e .alignment .after)
+  align-wrote =
+      let c = e .alignment in
+      align-part i columns (c .before) (c .after) (c .answer) (c .unrefused) (c .contract)
 
-    same-written : (part : Part) → fits part (a .answer) ≡ true → writtenFor part b l ≡ writtenFor part a k
-    unfolding some-is
-    same-written part h =
-        ap (some-is (writtenFor part b l))
-        (predicted-at b l hl part (fits-too part h)
-        ∙ ap (resultOf part) same-outcome
-        ∙ sym (predicted-at a k hk part h))
+  retention-wrote : ModelPart ofRetention i (e .retention .before) (e .retention .after) (e .retention .answer)
+  retention-wrote =
+      let c = e .retention in
+      retention-part i columns (take (length (i .file)) (e .alignment .after .aligned))
+      (targets-written i columns (e .alignment .before) (e .alignment .after) align-wrote)
+      (c .before) (c .after) (c .answer) (c .unrefused) (c .contract)
 
-    same-row : SameRow a b k l
-    same-row =
-        record {
-          aligned = aligned-at b l hl ∙ ap (λ (o : RowOutcome). o .aligned) same-outcome ∙ sym (aligned-at a k hk);
-          prediction = λ part h. ap (λ (p : Predicted). p .prediction) (same-written part h);
-          error = λ part h. ap (λ (p : Predicted). p .error) (same-written part h);
-        }
+  mobility-wrote : ModelPart ofMobility i (e .mobility .before) (e .mobility .after) (e .mobility .answer)
+  mobility-wrote =
+      let c = e .mobility in
+      mobility-part i columns (c .before) (c .after) (c .answer) (c .unrefused) (c .contract)
 
-  -- demand 3
-  pub edits-outside : Unmoved a b
-  edits-outside =
+  held-apart : Part → ModelOutputs
+  held-apart ofRetention = e .retention .before .outputs
+  held-apart ofMobility = e .mobility .before .outputs
+
+  outputs-apart : (part : Part) → writtenBy part (shown (ofCalls e)) ≡ filledModel part i (held-apart part)
+  unfolding held-apart
+  outputs-apart ofRetention = retention-wrote .outputs
+  outputs-apart ofMobility = mobility-wrote .outputs
+
+  calls-wrote : Wrote (shown (ofCalls e))
+  calls-wrote =
       record {
-        training-rows = same-training;
-        fitted-numbers = same-fitted;
-        untouched = same-row;
-        first-end = by-definition a;
-        second-end = by-definition b;
+        columns = columns;
+        peptide-numbers = align-check 4 (omega arith);
+        answer = ap₂ answersOf (retention-wrote .answer) (mobility-wrote .answer);
+        held-records = e .alignment .before .records;
+        records = align-wrote .records;
+        held-aligned = e .alignment .before .aligned;
+        aligned = align-wrote .aligned;
+        held = held-apart;
+        outputs = outputs-apart;
       }
+
+pub wrote : (e : End) → Wrote (shown e)
+wrote (ofRun e) = run-wrote e
+wrote (ofCalls e) = calls-wrote e
