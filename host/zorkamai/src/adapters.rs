@@ -8,6 +8,9 @@
 
 use crate::{align, mobility, retention, Alignment, Error, Fit, PeptideTable, Row, Rows};
 
+#[cfg(test)]
+mod tests;
+
 /// A row of the host: what is read of it, and what is written to it.
 pub trait Feature {
     /// The file's number, from 0.
