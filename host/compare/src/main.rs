@@ -16,6 +16,7 @@ mod cells;
 mod forms;
 mod limits;
 mod models;
+mod psm;
 mod runs;
 mod solve;
 
