@@ -187,7 +187,7 @@ fn zeros(r: &mut Rng) -> Rows {
 
 /// One time for all peptides of a file: the slope is what rounding leaves of the sums, so that every
 /// rounding is seen in its f32.
-fn level(r: &mut Rng) -> Rows {
+pub(super) fn level(r: &mut Rng) -> Rows {
     let (files, peptides) = (r.range(2, 4), r.range(3, 30));
     let mut rows = vec![];
     for file in 0..files {

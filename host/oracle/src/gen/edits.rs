@@ -65,7 +65,18 @@ impl Edit {
 }
 
 fn pair(r: &mut Rng, i: usize) -> Pair {
-    let before = match i % 14 {
+    let before = batch(r, i);
+    let numbers = (0..before.peptides.len() as u32).collect();
+    let mut list = List { files: before.files, numbers, rows: before.rows.clone(), edits: vec![] };
+    list.edit(r, i);
+    list.restore(r, &before.rows);
+    let after = Batch { rows: list.rows, ..before.clone() };
+    Pair { before, edits: list.edits, after }
+}
+
+/// The batch that pair `i` starts from.
+pub(super) fn batch(r: &mut Rng, i: usize) -> Batch {
+    match i % 14 {
         0..=3 => {
             let (files, peptides, rows) = (r.range(1, 4), r.range(4, 20), r.range(15, 60));
             run::batch(r, files, peptides, rows)
@@ -77,40 +88,30 @@ fn pair(r: &mut Rng, i: usize) -> Pair {
         11 => run::heavy(r),
         12 => run::one_training_row(r),
         _ => run::without_training(r),
-    };
-    let mut list = List {
-        files: before.files,
-        peptides: before.peptides.len(),
-        rows: before.rows.clone(),
-        edits: vec![],
-    };
-    list.edit(r, i);
-    list.restore(r, &before.rows);
-    let after = Batch { rows: list.rows, ..before.clone() };
-    Pair { before, edits: list.edits, after }
+    }
 }
 
-/// A list of rows while it is edited.
-struct List {
-    files: usize,
-    peptides: usize,
-    rows: Vec<Row>,
-    edits: Vec<Edit>,
+/// A list of rows while it is edited, and the peptide numbers that the rows may have after the last edit.
+pub(super) struct List {
+    pub files: usize,
+    pub numbers: Vec<u32>,
+    pub rows: Vec<Row>,
+    pub edits: Vec<Edit>,
 }
 
 impl List {
-    fn push(&mut self, edit: Edit) {
+    pub fn push(&mut self, edit: Edit) {
         edit.apply(&mut self.rows);
         self.edits.push(edit);
     }
 
     /// The places of the rows outside the training set.
-    fn outside(&self) -> Vec<usize> {
+    pub fn outside(&self) -> Vec<usize> {
         (0..self.rows.len()).filter(|&at| !trains(&self.rows[at])).collect()
     }
 
     /// Some edits, whatever they do to the longest times; some pairs lose every row outside first.
-    fn edit(&mut self, r: &mut Rng, i: usize) {
+    pub fn edit(&mut self, r: &mut Rng, i: usize) {
         if i % 9 == 8 {
             self.outside().into_iter().rev().for_each(|at| self.push(Edit::Remove(at)));
         }
@@ -139,12 +140,10 @@ impl List {
 
     /// A row outside the training set, plain or nasty, now and then of a file or a peptide that is
     /// not there.
-    fn row(&self, r: &mut Rng) -> Row {
-        let (files, peptides) = match r.below(12) {
-            0 => (self.files + 1, self.peptides + 1),
-            _ => (self.files, self.peptides),
-        };
-        let (file, peptide) = (r.below(files), r.below(peptides) as u32);
+    pub fn row(&self, r: &mut Rng) -> Row {
+        let past = r.one_in(12) as usize;
+        let (file, at) = (r.below(self.files + past), r.below(self.numbers.len() + past));
+        let peptide = self.numbers.get(at).copied().unwrap_or_else(|| self.no_number());
         let rt = if r.one_in(2) { nasty_time(r) } else { 120.0 * r.unit() as f32 };
         let ims = if r.one_in(3) { f32::from_bits(edge32(r)) } else { 2.0 * r.unit() as f32 };
         let charge = r.pick(&[0, 1, 2, 3, 4, 255]);
@@ -159,12 +158,18 @@ impl List {
         Row { file, peptide: PeptideIx(peptide), label, q, rt, charge, ims }
     }
 
+    /// A peptide number that no row may have after the last edit.
+    fn no_number(&self) -> u32 {
+        let mut from = self.numbers.len() as u32..;
+        from.find(|number| !self.numbers.contains(number)).expect("numbers to spare")
+    }
+
     /// The last edits: a row of no file or no peptide goes, a time that is too long is cut, and a
     /// file that has lost its longest time gets a row with it.
-    fn restore(&mut self, r: &mut Rng, before: &[Row]) {
+    pub fn restore(&mut self, r: &mut Rng, before: &[Row]) {
         for at in (0..self.rows.len()).rev() {
             let row = self.rows[at];
-            if self.files <= row.file || self.peptides <= row.peptide.0 as usize {
+            if self.files <= row.file || !self.numbers.contains(&row.peptide.0) {
                 self.push(Edit::Remove(at));
             } else if longest(before, row.file) < row.rt.ceil() as u32 {
                 self.push(Edit::Rewrite(at, Row { rt: longest(before, row.file) as f32, ..row }));
@@ -174,7 +179,7 @@ impl List {
             let time = longest(before, file);
             if longest(&self.rows, file) < time {
                 let place = r.below(self.rows.len() + 1);
-                let peptide = PeptideIx(r.below(self.peptides) as u32);
+                let peptide = PeptideIx(r.pick(&self.numbers));
                 let row = Row { file, peptide, rt: time as f32, ..self.row(r) };
                 self.push(Edit::Add(place, row));
             }

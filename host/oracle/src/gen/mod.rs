@@ -8,6 +8,7 @@ pub mod leaves;
 pub mod pools;
 pub mod program;
 pub mod run;
+pub mod tables;
 
 /// The stored cases of a kind, as `crate::answers_to` reads them.
 pub fn cases(kind: &str) -> Result<Vec<u8>, String> {

@@ -100,7 +100,7 @@ pub fn batch(r: &mut Rng, files: usize, peptides: usize, rows: usize) -> Batch {
 }
 
 /// A peptide of common letters, with the mass of its letters.
-fn peptide(r: &mut Rng) -> Peptide {
+pub(super) fn peptide(r: &mut Rng) -> Peptide {
     let length = r.range(4, 14);
     let mut sequence: Vec<u8> = (1..length).map(|_| r.pick(&VALID_AA[..20])).collect();
     sequence.push(r.pick(b"KR"));
@@ -114,7 +114,7 @@ fn weighed(sequence: Vec<u8>) -> Peptide {
 }
 
 /// Short, long and empty peptides, letters without a mass, and masses at the edges.
-fn nasty_peptide(r: &mut Rng) -> Peptide {
+pub(super) fn nasty_peptide(r: &mut Rng) -> Peptide {
     let length = r.pick(&[0, 1, 2, 3, 4, 5, 9, 40]);
     let letters: &[u8] = if r.one_in(2) { b"BJXZUO" } else { b"ABCDEFGHIJKLMNOPQRSTUVWXYZ" };
     let mut peptide = weighed((0..length).map(|_| r.pick(letters)).collect());
