@@ -1,5 +1,5 @@
-//! What the library's calls read of a batch, and the calls of both models. `host/bench` compiles this
-//! file too.
+//! What the library's calls read of a batch, and the calls of both models. `host/bench` and `host/oracle`'s
+//! test of edits compile this file too.
 
 use oracle::alignment::Row;
 use oracle::run::Batch;

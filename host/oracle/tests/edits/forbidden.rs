@@ -1,0 +1,139 @@
+//! The comparison sees what the rule forbids, whoever answers.
+
+use crate::answer::Answer;
+use crate::ends::{all_fields, host_pairs, without_number, Difference, Ends};
+use crate::library::{adapted, one_call, three_calls, with_times};
+use oracle::alignment::{align, Row};
+use oracle::gen::edits::{stored, trains};
+use oracle::gen::{alignment, run};
+use oracle::rng::Rng;
+use oracle::run::Batch;
+use oracle::text::bits32;
+use sage::database::PeptideIx;
+use sage::peptide::Peptide;
+use std::collections::BTreeSet;
+
+/// By the adapters, for a host that has the peptides' numbers a thousand apart.
+fn by_adapters(batch: &Batch) -> Answer {
+    let row = |row: &Row| Row { peptide: PeptideIx(row.peptide.0 * 1_000), ..*row };
+    let rows: Vec<Row> = batch.rows.iter().map(row).collect();
+    let table: Vec<(u32, Peptide)> =
+        (0..).step_by(1_000).zip(batch.peptides.iter().cloned()).collect();
+    adapted(&mut Rng::new(1), batch.files, &table, &rows)
+}
+
+/// Demands that the fitted numbers of two batches differ, whoever answers.
+fn is_seen(before: &Batch, after: &Batch) {
+    let marks = [without_number(before), without_number(after)];
+    let ends = Ends::new([before.clone(), after.clone()], marks);
+    let three = |batch: &Batch| three_calls(&mut Rng::new(2), batch, [0; 3]);
+    assert_eq!(ends.agree(ends.rust.each_ref()), Err(Difference::Fitted));
+    let ways: [&dyn Fn(&Batch) -> Answer; 3] = [&one_call, &three, &by_adapters];
+    for way in ways {
+        assert_eq!(ends.agree([&way(before), &way(after)]), Err(Difference::Fitted));
+    }
+}
+
+/// The first row outside the training set.
+fn outside(batch: &mut Batch) -> Option<&mut Row> {
+    batch.rows.iter_mut().find(|row| !trains(row))
+}
+
+/// The peptide of the first training row.
+fn trained(batch: &mut Batch) -> &mut Peptide {
+    let row = batch.rows.iter().find(|row| trains(row)).expect("a training row");
+    &mut batch.peptides[row.peptide.0 as usize]
+}
+
+/// Training rows at other times, rows that come to train, all of them or one, longest times that grow, and
+/// other letters and another mass of a peptide that a training row has.
+#[test]
+fn an_edit_that_the_rule_forbids_is_seen() {
+    let forbidden: [fn(&mut Batch); 6] = [
+        |batch| batch.rows.iter_mut().filter(|row| trains(row)).for_each(|row| row.rt += 0.5),
+        |batch| batch.rows.iter_mut().for_each(|row| (row.label, row.q) = (1, 0.0)),
+        |batch| outside(batch).iter_mut().for_each(|row| (row.label, row.q) = (1, 0.0)),
+        |batch| batch.rows.iter_mut().filter(|row| !trains(row)).for_each(|row| row.rt = 500.0),
+        |batch| trained(batch).sequence.push(b'W'),
+        |batch| trained(batch).monoisotopic += 1.0,
+    ];
+    let before = &stored()[0].before;
+    for edit in forbidden {
+        let mut after = before.clone();
+        edit(&mut after);
+        is_seen(before, &after);
+    }
+}
+
+/// The records' patterns.
+fn records(batch: &Batch) -> Vec<[u64; 3]> {
+    let aligned = align(batch.files, &batch.rows);
+    aligned.records.iter().map(|a| [a.max_rt, a.slope, a.intercept].map(bits32)).collect()
+}
+
+/// A batch of the alignment's families after two peptides that training rows have exchanged their numbers.
+fn exchanged(r: &mut Rng) -> [Batch; 2] {
+    let alignment::Rows { files, peptides, rows } = alignment::any(r);
+    let before = Batch { files, peptides: run::batch(r, 1, peptides, 0).peptides, rows };
+    let training = before.rows.iter().filter(|row| trains(row));
+    let numbers: BTreeSet<u32> = training.map(|row| row.peptide.0).collect();
+    let mut after = before.clone();
+    if let (Some(&first), Some(&last)) = (numbers.first(), numbers.last()) {
+        after.peptides.swap(first as usize, last as usize);
+        for number in after.rows.iter_mut().map(|row| &mut row.peptide.0) {
+            *number = match *number {
+                n if n == first => last,
+                n if n == last => first,
+                n => n,
+            };
+        }
+    }
+    [before, after]
+}
+
+/// The alignment's sums go by rising number, so that another order of the peptides moves a record now and then.
+#[test]
+fn another_order_of_the_training_rows_peptides_is_seen() {
+    let r = &mut Rng::new(0x04DE);
+    let mut tries = (0..1_000).map(|_| exchanged(r));
+    let moved = tries.find(|[before, after]| records(before) != records(after));
+    let [before, after] = moved.expect("an order that shows");
+    is_seen(&before, &after);
+}
+
+/// At one end, and at both, where the ends agree and the Rust does not.
+#[test]
+fn retention_on_other_times_is_seen() {
+    let (batch, r) = (&stored()[0].before, &mut Rng::new(3));
+    let marks = [(); 2].map(|_| all_fields(&batch.rows));
+    let ends = Ends::new([batch.clone(), batch.clone()], marks);
+    let times = |_: &[f32]| batch.rows.iter().map(|row| row.rt).collect();
+    let other = with_times(r, batch, [0, 5, 100], times);
+    let own = three_calls(r, batch, [5, 100, 0]);
+    assert_eq!(ends.agree([&own, &other]), Err(Difference::Fitted));
+    assert_eq!(ends.hold([&own, &other]), Err(Difference::Rust(1)));
+    assert_eq!(ends.hold([&other, &other]), Err(Difference::Rust(0)));
+    assert!(ends.agree([&other, &other]).is_ok() && ends.hold([&own, &own]).is_ok());
+}
+
+/// A result that moves alone: other letters of a peptide that only rows outside have. The rows are the same in
+/// all seven fields, and the tables say different things of them.
+#[test]
+fn a_rows_result_that_moves_alone_is_seen() {
+    let [mut before, _] = host_pairs().swap_remove(0).ends();
+    let training: Vec<&Row> = before.rows.iter().filter(|row| trains(row)).collect();
+    let is_free = |row: &&Row| training.iter().all(|other| other.peptide != row.peptide);
+    let free = before.rows.iter().find(is_free).expect("a peptide without training rows");
+    let number = free.peptide.0 as usize;
+    before.peptides[number] = before.peptides[training[0].peptide.0 as usize].clone();
+    let mut after = before.clone();
+    after.peptides[number].sequence.extend(b"WWW");
+    let alike = [without_number(&before), without_number(&after)];
+    let by_number = [all_fields(&before.rows), all_fields(&after.rows)];
+    let mut ends = Ends::new([before, after], by_number);
+    let answers = [0, 1].map(|end| one_call(&ends.batches[end]));
+    let differs = ends.agree(answers.each_ref());
+    assert!(matches!(differs, Err(Difference::Row(_))), "{differs:?}");
+    ends.marks = alike;
+    assert!(ends.agree(answers.each_ref()).is_ok());
+}
