@@ -2,7 +2,9 @@
 //! [`Feature`], and its peptides through [`Database`], under sage's names.
 //!
 //! A host's peptide numbers may be large and far apart: those that occur are numbered anew from 0 in their
-//! order, which changes no result.
+//! order, which changes no result. So rows outside the training set may bring and take peptides, and nothing
+//! else moves, as long as the file count and the files' longest times hold (README, the rule about edits). Between
+//! the three calls nobody may write what is read of the rows.
 //!
 //! `examples/sage.rs` has a host with such a struct.
 
