@@ -1,6 +1,6 @@
 -- Demand 3: rows outside the training set can't move a fitted number or another row's result. What is supposed and
--- what is claimed stands in specs/EditsOutside.antt, tied there clause by clause to document 01's sentences. Edits of
--- rows outside leave the training rows as they were, so it is the case of Peptides in which one table serves both ends.
+-- what is claimed stands in specs/EditsOutside.antt. Edits of rows outside leave the training rows as they were, so it
+-- is the case of Peptides in which one table serves both ends.
 use mathlib.Core.Path.{_≡_, sym, ap, ap₂, _∙_}
 use mathlib.Core.List.{map-id}
 use borrow.Author.Tests.{not-true}

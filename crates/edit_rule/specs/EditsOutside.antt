@@ -1,6 +1,5 @@
--- Demand 3, "Edits outside the training set": what is supposed of what two ends were passed, and what is claimed of
--- what they show, whether each is one call or three. Each clause stands under the sentence of document 01, in quotation
--- marks, that it renders. Definitions only.
+-- Demand 3, document 01's section on edits outside the training set: what is supposed of what two ends were passed, and
+-- what is claimed of what they show, whether each is one call or three. Definitions only.
 use mathlib.Core.Path.{_≡_}
 use mathlib.Core.Bool.{Bool, true, false}
 use mathlib.Core.List.{List}
@@ -26,7 +25,7 @@ abbrev pub writtenBy : Part → Shown → ModelOutputs
 writtenBy ofRetention s = s .retention
 writtenBy ofMobility s = s .mobility
 
--- whether the model fits, as was answered: "Failure to fit is 8 or 9"
+-- whether the model fits, by what was answered; it does not with 8 and 9
 abbrev pub fits : Part → RunAnswer → Bool
 fits ofRetention (Ran retention mobility) = isSolved retention
 fits ofMobility (Ran retention mobility) = isSolved mobility
@@ -35,24 +34,28 @@ fits ofMobility (Refused n) = false
 
 -- ---- what is supposed
 
--- the file count holds, and each file's longest time over all rows, rounded up
+-- of two lists of rows and the number of their files
 pub record SameLongest (files₁ : ℕ) (rows₁ : List Row) (files₂ : ℕ) (rows₂ : List Row) : Type 0 where
+  -- there are as many files
   pub files : files₂ ≡ files₁
+  -- and each has the same longest time, over all its rows and rounded up
   pub longests : longest files₂ rows₂ ≡ longest files₁ rows₁
 
 pub record EditedOutside (a b : Input) : Type 0 where
-  -- "A list of edits starts from any list of rows, and each edit gets the list the last one left"
+  -- edits, each of the list that the one before it left, whatever that is
   pub edits : List Edit
+  -- they lead from the rows that a was passed to those that b was passed
   pub edited : rows b ≡ editedBy edits (rows a)
   -- the row that an edit touches is outside the training set before and after; so the training rows keep their order
   pub outside : touchOnly outside edits (rows a) ≡ true
+  -- the file count and the longest times are the same
   pub longest-times : SameLongest (a .files) (rows a) (b .files) (rows b)
-  -- the peptide table holds
+  -- and so is the peptide table
   pub table : b .table ≡ a .table
 
 -- ---- what is claimed
 
--- "the records, coefficients, ridge, r2 and n"
+-- the fitted numbers
 pub record SameFitted (a b : Shown) : Type 0 where
   -- the record of every file
   pub records : firstOf (a .input .files) (b .records) ≡ firstOf (a .input .files) (a .records)
@@ -65,10 +68,12 @@ pub record SameFitted (a b : Shown) : Type 0 where
 
 -- the row k of a and the row l of b have the same results
 pub record SameRow (a b : Shown) (k l : ℕ) : Type 0 where
+  -- its aligned time
   pub aligned : getD (b .aligned) l nan ≡ getD (a .aligned) k nan
-  -- where the model fits
+  -- of either model that fits, its prediction
   pub prediction : (part : Part) → fits part (a .answer) ≡ true
       → getD (writtenBy part b .predicted) l nan ≡ getD (writtenBy part a .predicted) k nan
+  -- and its error
   pub error : (part : Part) → fits part (a .answer) ≡ true
       → getD (writtenBy part b .error) l nan ≡ getD (writtenBy part a .error) k nan
 
@@ -84,26 +89,34 @@ writtenFor part s k =
 abbrev pub outcomeAt : Input → ℕ → RowOutcome
 outcomeAt i k = outcome (i .table) (fittedBy i) (rowAt (rows i) k)
 
--- "Their definition is that of the modules above, fed the training rows in order, file count, peptide table and longest
--- times, and nothing the program wrote": `fittedBy`. The fitted numbers, or the failure, are what it gives, and each
--- row's results what it and that row give.
+-- The fitted numbers, or the failures, are what `fittedBy` gives, which reads the training rows in their order, the
+-- file count, the peptide table and the longest times, and nothing that was written; and each row's results are what
+-- these numbers and that row give. So no constants would do.
 pub record ByDefinition (s : Shown) : Type 0 where
+  -- every file's record
   pub records : firstOf (s .input .files) (s .records) ≡ columnsOf (fittedBy (s .input) .records)
+  -- ridge, r2 and n of both models, or 8 or 9
   pub answer : s .answer ≡ Ran (fittedBy (s .input) .retention .outcome) (fittedBy (s .input) .mobility .outcome)
+  -- the coefficients of either model that fits
   pub coefficients : (part : Part) → fits part (s .answer) ≡ true
       → take (orderOf (modelOf part)) (writtenBy part s .coefficients)
       ≡ fitOfPart part (fittedBy (s .input)) .coefficients
+  -- each row's aligned time
   pub aligned : (k : ℕ) → k < length (rows (s .input))
       → getD (s .aligned) k nan ≡ outcomeAt (s .input) k .aligned
+  -- and its prediction and error by either model that fits
   pub predicted : (part : Part) (k : ℕ) → fits part (s .answer) ≡ true → k < length (rows (s .input))
       → some (writtenFor part s k) ≡ resultOf part (outcomeAt (s .input) k)
 
--- Demand 3, "one claim about the two ends"
+-- demand 3, one claim about the two ends
 pub record Unmoved (a b : Shown) : Type 0 where
+  -- the same rows train, in the same order
   pub training-rows : training (rows (b .input)) ≡ training (rows (a .input))
+  -- the fitted numbers, or the failures, are the same
   pub fitted-numbers : SameFitted a b
-  -- "Any row at one end and any row at the other that equals it to the bit in all seven count as one untouched row"
+  -- any row of one end and any row of the other that has its seven fields, to the bit, have the same results
   pub untouched : (k l : ℕ) → k < length (rows (a .input)) → l < length (rows (b .input))
       → rowAt (rows (a .input)) k ≡ rowAt (rows (b .input)) l → SameRow a b k l
+  -- and at both ends all of it is what the definition gives
   pub first-end : ByDefinition a
   pub second-end : ByDefinition b

@@ -1,5 +1,5 @@
--- The ends of a list of edits: one call of `run`, or its three parts called one by one; and what an end shows. Each
--- clause stands under the words of document 01, in quotation marks, that it renders. Definitions only.
+-- The two ends of a list of edits, which alone are run: an end is one call of `run`, or its three parts called one by
+-- one; and what an end shows. Definitions only.
 use mathlib.Core.Path.{_≡_}
 use mathlib.Core.List.{List}
 use Prim.Native.Nat.{ℕ}
@@ -22,13 +22,16 @@ use Rattle.run.specs.declared.RunAnswer.the-variants.{Ran, Refused}
 
 -- ---- an accepted call
 
--- "whatever work room and outputs held": a call on slices that held anything, with what its contract promises of its
--- answer and of the slices after it. It meets none of the refusals 1 to 7; a model that does not fit, 8 or 9, is none.
+-- A call on a workspace and outputs that held anything. It meets none of the refusals 1 to 7; a model that does not
+-- fit, 8 or 9, is none of these.
 pub record AcceptedCall {S R : Type 0} (Promised : Change S → R → Type 0) (status : S → ℕ) : Type 0 where
+  -- the slices as the call begins and as it returns, and the answer
   pub before : S
   pub after : S
   pub answer : R
+  -- what the contract promises of them
   pub contract : Promised (change before after) answer
+  -- and that the call is accepted
   pub unrefused : status before ≡ accepted
 
 -- an accepted call of a model's `predict`
@@ -37,14 +40,14 @@ AcceptedPredict model i = AcceptedCall (PredictCall model i) (predictStatus mode
 
 -- ---- an end
 
--- "A run is the alignment, the retention fit on the aligned times it wrote, the mobility fit, and predictions and
--- errors from each model that fits": a call of `run`,
+-- A run aligns, fits retention to the aligned times and mobility to the mobilities, and predicts every row by each
+-- model that fits. It is one call of `run`,
 pub record RunEnd : Type 0 where
   pub input : Input
   pub call : AcceptedCall (RunCall input) (status input)
 
--- or the three calls one by one, each with a workspace of its own, of any length that it accepts. "nobody else writes a
--- slice between its calls": all three get the rows and the table that the one call gets.
+-- or the three calls one by one, each with a workspace of its own, of any length that it accepts. Nobody else writes
+-- between them: all three get the rows and the table that the one call gets.
 pub record CallsEnd : Type 0 where
   pub input : Input
   pub alignment : AcceptedCall (Aligned (alignInput input)) (alignStatus (alignInput input))

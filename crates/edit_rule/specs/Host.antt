@@ -49,14 +49,17 @@ pub record HostEnd (host : ℕ → Peptide) : Type 0 where
 pub record HostEdited {host : ℕ → Peptide} (a b : HostEnd host) : Type 0 where
   -- a list of edits of the host's rows
   pub edits : List Edit
+  -- from those of the one end to those of the other
   pub edited : b .found ≡ editedBy edits (a .found)
   -- the row that an edit touches is outside the training set before and after
   pub outside : touchOnly outside edits (a .found) ≡ true
+  -- the file count and the longest times, over the host's rows, are the same
   pub longest-times : SameLongest (passedAt (a .end) .files) (a .found) (passedAt (b .end) .files) (b .found)
 
 -- ---- what is claimed
 
 pub record HostUnmoved {host : ℕ → Peptide} (a b : HostEnd host) : Type 0 where
+  -- the same of the host's rows train, in the same order
   pub training-rows : training (b .found) ≡ training (a .found)
   -- the record of every file, both fits' outcomes and coefficients
   pub fitted-numbers : SameFitted (shown (a .end)) (shown (b .end))

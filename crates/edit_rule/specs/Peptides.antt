@@ -64,6 +64,7 @@ pub record SameTraining (a b : Input) : Type 0 where
   -- under its new number a peptide has its letters, its mass and its log
   pub kept : (p : ℕ) → has (training (rows a)) p ≡ true
       → peptideAt (b .table) (number p) ≡ peptideAt (a .table) p
+  -- the file count and the longest times are the same
   pub longest-times : SameLongest (a .files) (rows a) (b .files) (rows b)
 
 -- Peptides put in, and a list of edits: one table is the other with peptides put in at any places, every row gets its
@@ -81,6 +82,7 @@ pub record PutIn (a b : Input) : Type 0 where
   pub edited : rows b ≡ editedBy edits (map (renumbered number) (rows a))
   -- the row that an edit touches is outside the training set before and after
   pub outside : touchOnly outside edits (map (renumbered number) (rows a)) ≡ true
+  -- the file count and the longest times are the same
   pub longest-times : SameLongest (a .files) (rows a) (b .files) (rows b)
 
 -- ---- what is claimed
@@ -88,11 +90,12 @@ pub record PutIn (a b : Input) : Type 0 where
 -- A row r with the table t and a row s with the table u agree but for the peptide's number. Their label and q may
 -- differ: no result of a row reads them.
 pub record SameButNumber (t u : Table) (r s : Row) : Type 0 where
+  -- their file, time, charge and mobility are equal
   pub file : s .file ≡ r .file
   pub rt : s .rt ≡ r .rt
   pub charge : s .charge ≡ r .charge
   pub mobility : s .mobility ≡ r .mobility
-  -- the tables say the same of their peptides
+  -- and the tables say the same of their peptides
   pub peptide : peptideAt u (s .peptide) ≡ peptideAt t (r .peptide)
 
 pub record PeptidesUnmoved (a b : Shown) : Type 0 where
