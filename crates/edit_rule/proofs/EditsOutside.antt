@@ -3,21 +3,18 @@
 -- is the case of Peptides in which one table serves both ends.
 use mathlib.Core.Path.{_≡_, sym, ap, ap₂, _∙_}
 use mathlib.Core.List.{map-id}
-use borrow.Author.Tests.{not-true}
-use Rattle.feature.specs.Feature.{Row, rowTrains, outside, training}
-use Rattle.edits.proofs.Edits.{kept-by}
+use Rattle.feature.specs.Feature.{Row, training}
+use Rattle.edits.proofs.Edits.{training-kept}
 use Rattle.peptide.specs.Table.{Table}
 use Rattle.run.specs.Call.{Input, rows}
 use Rattle.edit_rule.specs.Ends.{End, shown, passedAt}
 use Rattle.edit_rule.specs.EditsOutside.{EditedOutside, Unmoved}
 use Rattle.edit_rule.specs.Peptides.{peptideAt, SameTraining, SameButNumber}
-use Rattle.edit_rule.proofs.Peptides.{peptides-unmoved}
+use Rattle.edit_rule.proofs.Peptides.{renumbered-same, peptides-unmoved}
 
 module _ (a b : Input) (s : EditedOutside a b) where
   same-training : training (rows b) ≡ training (rows a)
-  same-training =
-      ap training (s .edited)
-      ∙ kept-by outside rowTrains (λ r. not-true (rowTrains r)) (s .edits) (rows a) (s .outside)
+  same-training = ap training (s .edited) ∙ training-kept (s .edits) (rows a) (s .outside)
 
   one-table : SameTraining a b
   one-table =
@@ -31,13 +28,8 @@ module _ (a b : Input) (s : EditedOutside a b) where
 
   same-row : (r t : Row) → r ≡ t → SameButNumber (a .table) (b .table) r t
   same-row r t e =
-      record {
-        file = ap (λ (x : Row). x .file) (sym e);
-        rt = ap (λ (x : Row). x .rt) (sym e);
-        charge = ap (λ (x : Row). x .charge) (sym e);
-        mobility = ap (λ (x : Row). x .mobility) (sym e);
-        peptide = ap₂ (λ (u : Table) (x : Row). peptideAt u (x .peptide)) (s .table) (sym e);
-      }
+      renumbered-same (a .table) (b .table) (λ p. p) (λ p. p) r t e
+      (ap₂ (λ (u : Table) (x : Row). peptideAt u (x .peptide)) (s .table) (sym e))
 
 -- demand 3
 pub edits-outside : (a b : End) → EditedOutside (passedAt a) (passedAt b) → Unmoved (shown a) (shown b)

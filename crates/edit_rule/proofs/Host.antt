@@ -9,12 +9,12 @@ use native.Mathlib.Decide.{decLe}
 use native.Mathlib.Omega.{arith}
 use lib.Dec.{eqb, ltb}
 use lib.ListN.{length, getD, length-map}
-use borrow.Author.Tests.{eqb-true, ltb-true, lt-ltb, le-ltb, not-true}
+use borrow.Author.Tests.{eqb-true, ltb-true, lt-ltb, le-ltb}
 use Rattle.status.specs.Checks.{every}
 use Rattle.status.proofs.Laws.{and-true}
-use Rattle.feature.specs.Feature.{Row, rowTrains, outside, training}
+use Rattle.feature.specs.Feature.{Row, training}
 use Rattle.edits.specs.Edits.{noRow, rowAt}
-use Rattle.edits.proofs.Edits.{kept-by}
+use Rattle.edits.proofs.Edits.{training-kept}
 use Rattle.embedding.specs.Count.{howMany, oneOf}
 use Rattle.run.specs.Fitted.{longest}
 use Rattle.run.specs.Call.{rows}
@@ -24,7 +24,7 @@ use Rattle.edit_rule.specs.Host.{rising, placeIn, HostEnd, HostEdited, H
 use Rattle.edit_rule.proofs.Shown.{getD-mapped}
 use Rattle.edit_rule.proofs.Renumbered.{every-has, or-second, has-at, training-has, Old, has-old}
 use Rattle.edit_rule.proofs.Renumbered.{training-renumbered, longest-renumbered, renumbered-twice}
-use Rattle.edit_rule.proofs.Peptides.{peptides-unmoved}
+use Rattle.edit_rule.proofs.Peptides.{renumbered-same, peptides-unmoved}
 
 -- ---- places
 
@@ -141,9 +141,7 @@ module _ (host : ℕ → Peptide) (e : HostEnd host) where
 
 module _ (host : ℕ → Peptide) (a b : HostEnd host) (s : HostEdited a b) where
   found-training : training (b .found) ≡ training (a .found)
-  found-training =
-      ap training (s .edited)
-      ∙ kept-by outside rowTrains (λ r. not-true (rowTrains r)) (s .edits) (a .found) (s .outside)
+  found-training = ap training (s .edited) ∙ training-kept (s .edits) (a .found) (s .outside)
 
   -- a training row's number, at both ends
   abbrev Trained : ℕ → Type 0
@@ -221,16 +219,12 @@ module _ (host : ℕ → Peptide) (a b : HostEnd host) (s : HostEdited a b) wher
       (rowAt (rows (passedAt (a .end))) k) (rowAt (rows (passedAt (b .end))) l)
   same-row k l hk hl e =
       rw (row-at host a k hk, row-at host b l hl)
-      (record {
-        file = ap (λ (r : Row). r .file) (sym e);
-        rt = ap (λ (r : Row). r .rt) (sym e);
-        charge = ap (λ (r : Row). r .charge) (sym e);
-        mobility = ap (λ (r : Row). r .mobility) (sym e);
-        peptide =
-            says host b (rowAt (b .found) l .peptide) (has-at (b .found) l hl)
-            ∙ ap (λ (r : Row). host (r .peptide)) (sym e)
-            ∙ sym (says host a (rowAt (a .found) k .peptide) (has-at (a .found) k hk));
-      })
+      (renumbered-same
+      (passedAt (a .end) .table) (passedAt (b .end) .table) (placeIn (a .numbers)) (placeIn (b .numbers))
+      (rowAt (a .found) k) (rowAt (b .found) l) e
+      (says host b (rowAt (b .found) l .peptide) (has-at (b .found) l hl)
+      ∙ ap (λ (r : Row). host (r .peptide)) (sym e)
+      ∙ sym (says host a (rowAt (a .found) k .peptide) (has-at (a .found) k hk))))
 
   -- demand 3, by the host's rows
   pub host-unmoved : HostUnmoved a b

@@ -1,20 +1,20 @@
 -- Demand 3 where the peptide tables of the two ends differ: specs/Peptides.antt says what is supposed and claimed. The
 -- records read the peptides' numbers only for their order (Records), and a model's design row reads only what the table
 -- says of its own peptide; so the definition gives both ends the same.
-use mathlib.Core.Path.{_≡_, refl, ap, ap₂, _∙_}
+use mathlib.Core.Path.{_≡_, refl, sym, ap, ap₂, _∙_}
 use mathlib.Core.Bool.{true}
 use mathlib.Core.List.{List, [], _∷_, map}
 use Prim.Native.Nat.{ℕ, _<_}
 use lib.Dec.{ltb}
 use lib.Ieee.{Float}
-use borrow.Author.Tests.{ltb-true, not-true}
+use borrow.Author.Tests.{ltb-true}
 use Rattle.status.specs.Checks.{allBelow}
 use Rattle.float.specs.Convert.{narrowed}
 use Rattle.float.specs.Value.{clamped}
 use Rattle.float.specs.Number.{zero64}
-use Rattle.feature.specs.Feature.{Row, rowTrains, outside, training}
+use Rattle.feature.specs.Feature.{Row, training}
 use Rattle.edits.specs.Edits.{rowAt}
-use Rattle.edits.proofs.Edits.{kept-by}
+use Rattle.edits.proofs.Edits.{training-kept}
 use Rattle.peptide.specs.Table.{Table}
 use Rattle.embedding.specs.Design.{orderOf, design}
 use Rattle.embedding.specs.declared.Model.{Model}
@@ -67,6 +67,19 @@ module _ (t u : Table) (r s : Row) (e : SameButNumber t u r s) where
   same-outcome f =
       rw (same-predicted ofRetention f, same-predicted ofMobility f, same-target Retention (f .records))
 
+-- a row under other numbers of a peptide of which the tables say the same
+pub renumbered-same : (t u : Table) (φ ψ : ℕ → ℕ) (r s : Row) → r ≡ s
+    → peptideAt u (ψ (s .peptide)) ≡ peptideAt t (φ (r .peptide))
+    → SameButNumber t u (renumbered φ r) (renumbered ψ s)
+renumbered-same t u φ ψ r s e h =
+    record {
+      file = ap (λ (x : Row). x .file) (sym e);
+      rt = ap (λ (x : Row). x .rt) (sym e);
+      charge = ap (λ (x : Row). x .charge) (sym e);
+      mobility = ap (λ (x : Row). x .mobility) (sym e);
+      peptide = h;
+    }
+
 -- the samples of renumbered rows
 samples-same : (model : Model) (records : List Alignment) (t u : Table) (φ : ℕ → ℕ) (rs : List Row)
     → ((p : ℕ) → has rs p ≡ true → peptideAt u (φ p) ≡ peptideAt t p)
@@ -74,7 +87,7 @@ samples-same : (model : Model) (records : List Alignment) (t u : Table) (φ : �
 samples-same model records t u φ [] h = refl
 samples-same model records t u φ (r ∷ rs) h =
     let e : SameButNumber t u r (renumbered φ r) =
-    record { file = refl; rt = refl; charge = refl; mobility = refl; peptide = h (r .peptide) (has-first r rs) } in
+    renumbered-same t u (λ p. p) φ r r refl (h (r .peptide) (has-first r rs)) in
     ap₂ (λ (x : Sample) (xs : List Sample). x ∷ xs) (same-sample t u r (renumbered φ r) e model records)
     (samples-same model records t u φ rs (λ p l. h p (has-later r rs p l)))
 
@@ -163,7 +176,7 @@ put-in-training a v b s =
       number = s .number;
       training-rows =
           ap training (s .edited)
-          ∙ kept-by outside rowTrains (λ r. not-true (rowTrains r)) (s .edits) renumbered-rows (s .outside)
+          ∙ training-kept (s .edits) renumbered-rows (s .outside)
           ∙ training-renumbered (s .number) (rows (a .input));
       rises = λ p q hp hq l. s .rises p q l (training-below a v q hq);
       kept = λ p h. s .kept p (training-below a v p h);

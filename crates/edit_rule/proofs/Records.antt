@@ -16,7 +16,7 @@ use borrow.Author.Tests.{eqb-false, eq-eqb, ne-eqb}
 use Rattle.float.specs.Number.{zero64, number}
 use Rattle.float.specs.Value.{isNormal}
 use Rattle.matrix.specs.Lists.{tabulate}
-use Rattle.matrix.proofs.Lists.{tabulate-same}
+use Rattle.matrix.proofs.Lists.{tabulate-same, map-tabulate}
 use Rattle.feature.specs.Feature.{Row}
 use Rattle.embedding.specs.Count.{oneOf}
 use Rattle.rt_matrix.specs.Line.{share, present, mean, keptRows, points, line, lines}
@@ -91,12 +91,6 @@ times-same φ (r ∷ rs) p f h =
     rw (h (r .peptide) (has-first r rs))
     (ap (λ (t : List Float). cond (eqb (r .peptide) p && eqb (r .file) f) (r .rt ∷ t) t)
     (times-same φ rs p f (λ q u. h q (has-later r rs q u))))
-
-map-tabulate : {A B : Type 0} (g : A → B) (k : ℕ) (f : ℕ → A)
-    → map g (tabulate k f) ≡ tabulate k (λ i. g (f i))
-unfolding tabulate
-map-tabulate g zero f = refl
-map-tabulate g (suc k) f = ap (λ (t : List _). g (f 0) ∷ t) (map-tabulate g k (λ i. f (suc i)))
 
 module _ (φ : ℕ → ℕ) (rs : List Row) (m n : ℕ) (s : Renumbers φ rs m n) where
   -- different numbers stay different

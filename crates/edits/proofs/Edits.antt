@@ -7,8 +7,8 @@ use Prim.Native.Nat.{ℕ, suc}
 use lib.Dec.{ltb}
 use lib.ListN.{length, take, drop, take-append-drop}
 use lib.Seq.{drop-cons}
-use borrow.Author.Tests.{ltb-true}
-use Rattle.feature.specs.Feature.{Row, selected}
+use borrow.Author.Tests.{ltb-true, not-true}
+use Rattle.feature.specs.Feature.{Row, rowTrains, outside, selected, training}
 use Rattle.status.proofs.Laws.{and-true}
 use Rattle.edits.specs.Edits.{Edit, rewriteRow, addRow, removeRow, moveRow, noRow, rowAt, withRow, withoutRow}
 use Rattle.edits.specs.Edits.{edited, mayAt, touches, editedBy, touchOnly}
@@ -75,3 +75,8 @@ module _ (may sel : Row → Bool) (apart : (r : Row) → may r ≡ true → sel 
   kept-by (e ∷ es) rows h =
       let t = and-true (touches may e rows) (touchOnly may es (edited e rows)) h in
       kept-by es (edited e rows) (t .1) ∙ kept-edited e rows (t .0)
+
+-- edits of rows outside the training set leave the rows that train
+pub training-kept : (es : List Edit) (rows : List Row) → touchOnly outside es rows ≡ true
+    → training (editedBy es rows) ≡ training rows
+training-kept es rows h = kept-by outside rowTrains (λ r. not-true (rowTrains r)) es rows h

@@ -87,6 +87,13 @@ module _ {A : Type 0} where
   tabulate-constant zero a = refl
   tabulate-constant (suc n) a = ap {B = List A} (λ r. a ∷ r) (tabulate-constant n a)
 
+  -- a function of each cell
+  pub map-tabulate : {B : Type 0} (g : A → B) (n : ℕ) (f : ℕ → A)
+      → map g (tabulate n f) ≡ tabulate n (λ i. g (f i))
+  unfolding tabulate
+  map-tabulate g zero f = refl
+  map-tabulate {B} g (suc n) f = ap {B = List B} (λ r. g (f 0) ∷ r) (map-tabulate g n (λ i. f (suc i)))
+
   -- a table with a list beside it that is long enough
   pub zipped-tabulate : {B : Type 0} (g : A → B → A) (b : B) (n : ℕ) (f : ℕ → A) (xs : List B)
       → n ≤ length xs
