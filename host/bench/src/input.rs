@@ -1,6 +1,6 @@
 //! The inputs, in the form that each side takes, and a call of each side for each phase.
 
-use crate::calls::{Input, Model};
+use crate::calls::{align, Input, Model};
 use oracle::gen::run::batch;
 use oracle::rng::Rng;
 use sage::database::IndexedDatabase;
@@ -85,22 +85,9 @@ impl Work {
     }
 
     pub fn align(&mut self) {
-        let [max_rt, slope, intercept] = &mut self.records;
         let Input { rows, aligned, table } = &mut self.input;
-        let status = raw::align(
-            &rows.file,
-            &rows.peptide,
-            &rows.label,
-            &rows.q,
-            &rows.rt,
-            FILES,
-            table.len(),
-            &mut self.workspace,
-            max_rt,
-            slope,
-            intercept,
-            aligned,
-        );
+        let records = self.records.each_mut().map(Vec::as_mut_slice);
+        let status = align(rows, FILES, table.len(), &mut self.workspace, records, aligned);
         assert_eq!(status, 0);
     }
 

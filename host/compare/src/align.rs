@@ -1,12 +1,11 @@
 //! Batches through the alignment, and damaged calls of it.
 
-use crate::calls::columns;
+use crate::calls::{self, columns};
 use crate::cells::{same, Output};
 use oracle::alignment::{align, Aligned};
 use oracle::gen::alignment::Rows;
 use oracle::rng::Rng;
 use sage::ml::retention_alignment::Alignment;
-use zorkamai::raw;
 
 /// A batch of any family, aligned, and each way to damage the call.
 pub fn case(r: &mut Rng) -> Result<usize, String> {
@@ -39,20 +38,8 @@ impl Outputs {
 
     pub fn call(&mut self, rows: &zorkamai::Rows, files: usize, peptides: usize) -> u8 {
         let [max_rt, slope, intercept, aligned] = &mut self.floats;
-        raw::align(
-            &rows.file,
-            &rows.peptide,
-            &rows.label,
-            &rows.q,
-            &rows.rt,
-            files,
-            peptides,
-            &mut self.workspace.now,
-            &mut max_rt.now,
-            &mut slope.now,
-            &mut intercept.now,
-            &mut aligned.now,
-        )
+        let records = [&mut max_rt.now[..], &mut slope.now, &mut intercept.now];
+        calls::align(rows, files, peptides, &mut self.workspace.now, records, &mut aligned.now)
     }
 
     fn unchanged(&self) -> Result<(), String> {

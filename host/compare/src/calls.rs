@@ -1,4 +1,4 @@
-//! What the library's calls read of a batch, and the calls of both models. `host/bench` and `host/oracle`'s
+//! What the library's calls read of a batch, and the calls of the alignment and of both models. `host/bench` and `host/oracle`'s
 //! test of edits compile this file too.
 
 use oracle::alignment::Row;
@@ -24,6 +24,22 @@ pub fn columns(rows: &[Row]) -> Rows {
         mobility: row.ims,
     };
     rows.iter().map(row).collect()
+}
+
+/// Calls the alignment, which writes longest times, slopes and intercepts to `records`.
+pub fn align(
+    rows: &Rows,
+    files: usize,
+    peptides: usize,
+    work: &mut [f64],
+    records: [&mut [f32]; 3],
+    aligned: &mut [f32],
+) -> u8 {
+    let Rows { file, peptide, label, q, rt, .. } = rows;
+    let [max_rt, slope, intercept] = records;
+    raw::align(
+        file, peptide, label, q, rt, files, peptides, work, max_rt, slope, intercept, aligned,
+    )
 }
 
 /// What a call reads.

@@ -1,7 +1,7 @@
 //! The library's answers: by one call, by three calls, and by the adapters.
 
 use crate::answer::Answer;
-use crate::calls::{Input, Model};
+use crate::calls::{self, Input, Model};
 use crate::psm::{Peptides, Psm};
 use oracle::alignment::Row;
 use oracle::gen::pools::{any32, any64};
@@ -10,7 +10,7 @@ use oracle::run::Batch;
 use sage::peptide::Peptide;
 use sage::scoring::Feature;
 use zorkamai::adapters::{global_alignment, predict_mobility, predict_retention};
-use zorkamai::{mobility, raw, retention, Aligned, Alignment, Error, Fit, Predicted, Run};
+use zorkamai::{mobility, retention, Aligned, Alignment, Error, Fit, Predicted, Run};
 
 /// By one call of `run`.
 pub fn one_call(batch: &Batch) -> Answer {
@@ -63,24 +63,13 @@ fn floats(r: &mut Rng, n: usize) -> Vec<f32> {
 fn align(r: &mut Rng, input: &Input, files: usize, more: usize) -> Aligned {
     let (rows, peptides) = (&input.rows, input.table.len());
     let mut workspace = doubles(r, peptides * files + more);
-    let [mut max_rt, mut slope, mut intercept] = [(); 3].map(|_| floats(r, files));
+    let mut records = [(); 3].map(|_| floats(r, files));
     let mut aligned = floats(r, rows.len());
-    let status = raw::align(
-        &rows.file,
-        &rows.peptide,
-        &rows.label,
-        &rows.q,
-        &rows.rt,
-        files,
-        peptides,
-        &mut workspace,
-        &mut max_rt,
-        &mut slope,
-        &mut intercept,
-        &mut aligned,
-    );
+    let cells = records.each_mut().map(Vec::as_mut_slice);
+    let status = calls::align(rows, files, peptides, &mut workspace, cells, &mut aligned);
     assert_eq!(status, 0, "an alignment is accepted");
     aligned.truncate(rows.len());
+    let [max_rt, slope, intercept] = records;
     let record =
         |i: usize| Alignment { max_rt: max_rt[i], slope: slope[i], intercept: intercept[i] };
     Aligned { records: (0..files).map(record).collect(), aligned }
