@@ -1,7 +1,7 @@
 -- How long the parts of an answer are, and the next part of a run of them.
 use mathlib.Core.Path.{_≡_, refl, ap}
 use mathlib.Core.List.{List, [], _∷_, _++_, flatten}
-use Prim.Native.Nat.{ℕ, _+_, _*_, _^_, _≤_, _<_}
+use Prim.Native.Nat.{ℕ, suc, _+_, _*_, _^_, _≤_, _<_}
 use native.Mathlib.Omega.{arith}
 use lib.ListN.{length, drop, getD, length-append, drop-of-length-le}
 use lib.Ieee.{Float, nan, binary32, toBits}
@@ -12,12 +12,14 @@ use Rattle.text.specs.Line.{line}
 use Rattle.text.proofs.Decimals.{decimal-length}
 use Rattle.text.proofs.Lists.{drop-next}
 use Rattle.rt_matrix.specs.declared.Alignment.{Alignment}
+use Rattle.rt_matrix.proofs.RecordColumns.{noRecord}
 use Rattle.align_output.specs.Output.{
   statusKey,
   fileKey,
   maxKey,
   slopeKey,
   interceptKey,
+  usedKey,
   alignedKey,
   statusText,
   floatLine,
@@ -42,39 +44,46 @@ pub status-length : (n : ℕ) → n < 2 ^ 32 → length (statusText n) ≤ 18
 unfolding statusText
 status-length n h = decimal-line-length statusKey n h
 
-append₃ : (a b c d : List ℕ) → length (a ++ (b ++ (c ++ (d ++ [])))) ≡ length a + length b + length c + length d
-append₃ a b c d =
+appended : (a b c d e : List ℕ)
+    → length (a ++ (b ++ (c ++ (d ++ (e ++ []))))) ≡ length a + length b + length c + length d + length e
+appended a b c d e =
     omega (
       arith,
-      length-append a (b ++ (c ++ (d ++ []))),
-      length-append b (c ++ (d ++ [])),
-      length-append c (d ++ []),
-      length-append d [],
+      length-append a (b ++ (c ++ (d ++ (e ++ [])))),
+      length-append b (c ++ (d ++ (e ++ []))),
+      length-append c (d ++ (e ++ [])),
+      length-append d (e ++ []),
+      length-append e [],
     )
 
-pub file-length : (i : ℕ) (a : Alignment) → i < 2 ^ 32 → length (fileText i a) ≤ 64
+pub file-length : (i : ℕ) (a : Alignment) → i < 2 ^ 32 → a .used < 2 ^ 32 → length (fileText i a) ≤ 80
 unfolding fileText flatten
-file-length i a h =
+file-length i a h u =
     omega (
       arith,
-      append₃ (line fileKey (decimalOf i)) (floatLine maxKey (a .«max_rt»)) (floatLine slopeKey (a .slope))
-          (floatLine interceptKey (a .intercept)),
+      appended (line fileKey (decimalOf i)) (floatLine maxKey (a .«max_rt»)) (floatLine slopeKey (a .slope))
+          (floatLine interceptKey (a .intercept)) (line usedKey (decimalOf (a .used))),
       decimal-line-length fileKey i h,
       float-length maxKey (a .«max_rt»),
       float-length slopeKey (a .slope),
       float-length interceptKey (a .intercept),
+      decimal-line-length usedKey (a .used) u,
     )
 
-pub files-length : (i : ℕ) (records : List Alignment) → i + length records ≤ 2 ^ 32
-    → length (filesText i records) ≤ 64 * length records
+-- records whose counts are of 32 bits
+abbrev pub Counted : List Alignment → Type 0
+Counted records = (k : ℕ) → k < length records → getD records k noRecord .used < 2 ^ 32
+
+pub files-length : (i : ℕ) (records : List Alignment) → i + length records ≤ 2 ^ 32 → Counted records
+    → length (filesText i records) ≤ 80 * length records
 unfolding filesText
-files-length i [] h = omega arith
-files-length i (a ∷ records) h =
+files-length i [] h u = omega arith
+files-length i (a ∷ records) h u =
     omega (
       arith,
       length-append (fileText i a) (filesText (i + 1) records),
-      file-length i a (omega arith),
-      files-length (i + 1) records (omega arith),
+      file-length i a (omega arith) (u 0 (omega arith)),
+      files-length (i + 1) records (omega arith) (λ k l. u (suc k) (omega (arith, l))),
     )
 
 pub aligned-length : (ts : List Float) → length (alignedText ts) ≡ 17 * length ts
@@ -88,17 +97,17 @@ aligned-length (t ∷ ts) =
       aligned-length ts,
     )
 
-pub accepted-length : (records : List Alignment) (ts : List Float) → length records ≤ 2 ^ 32
-    → length (acceptedText records ts) ≤ 18 + 64 * length records + 17 * length ts
+pub accepted-length : (records : List Alignment) (ts : List Float) → length records ≤ 2 ^ 32 → Counted records
+    → length (acceptedText records ts) ≤ 18 + 80 * length records + 17 * length ts
 unfolding acceptedText flatten
-accepted-length records ts h =
+accepted-length records ts h u =
     omega (
       arith,
       length-append (statusText 0) (filesText 0 records ++ (alignedText ts ++ [])),
       length-append (filesText 0 records) (alignedText ts ++ []),
       length-append (alignedText ts) [],
       status-length 0 (omega arith),
-      files-length 0 records (omega arith),
+      files-length 0 records (omega arith) u,
       aligned-length ts,
     )
 

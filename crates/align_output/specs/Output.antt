@@ -25,6 +25,9 @@ slopeKey = ascii "slope="
 abbrev pub interceptKey : List ℕ
 interceptKey = ascii "intercept="
 
+abbrev pub usedKey : List ℕ
+usedKey = ascii "used="
+
 abbrev pub alignedKey : List ℕ
 alignedKey = ascii "aligned="
 
@@ -38,7 +41,7 @@ unfoldable pub floatLine : List ℕ → Float → List ℕ
 unfolding hexOf toBits
 floatLine key x = line key (hexOf 8 (toBits binary32 x))
 
--- the lines of a file: its number, and its record's longest time, slope and intercept
+-- the lines of a file: its number, and its record's longest time, slope, intercept and number of kept peptides
 unfoldable pub fileText : ℕ → Alignment → List ℕ
 unfolding flatten floatLine decimalOf
 fileText i a =
@@ -47,6 +50,7 @@ fileText i a =
     ∷ floatLine maxKey (a .«max_rt»)
     ∷ floatLine slopeKey (a .slope)
     ∷ floatLine interceptKey (a .intercept)
+    ∷ line usedKey (decimalOf (a .used))
     ∷ [])
 
 -- the lines of the files from number i on, from their records

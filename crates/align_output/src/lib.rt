@@ -32,24 +32,32 @@ fn write_float(out: &mut [u8], at: usize, key: &[u8], x: f32) -> usize
 
 // Writes the lines of a file over out from `at` on, and answers the place after them.
 fn write_file(out: &mut [u8], at: usize, i: u32, a: Alignment) -> usize
-    requires { ⌜ at + 64 ≤ length (now out) ⌝ }
+    requires { ⌜ at + 80 ≤ length (now out) ⌝ }
     ensures { λ r. ⌜ Wrote (now (out .entry)) at (fileText i a) r (now (out .exit)) ⌝ }
 {
     let at1 = text::write_decimal_line(out, at, b"file=", i);
     let at2 = write_float(out, at1, b"max=", a.max_rt);
     let at3 = write_float(out, at2, b"slope=", a.slope);
-    write_float(out, at3, b"intercept=", a.intercept)
+    let at4 = write_float(out, at3, b"intercept=", a.intercept);
+    text::write_decimal_line(out, at4, b"used=", a.used)
 }
 
 // Writes the lines of the files over out from `at` on, and answers the place after them.
-fn write_files(out: &mut [u8], at: usize, max_rt: &[f32], slope: &[f32], intercept: &[f32]) -> usize
-    requires { ⌜ (at + 64 * length (now «max_rt») ≤ length (now out))
+fn write_files(
+    out: &mut [u8],
+    at: usize,
+    max_rt: &[f32],
+    slope: &[f32],
+    intercept: &[f32],
+    used: &[u32],
+) -> usize
+    requires { ⌜ (at + 80 * length (now «max_rt») ≤ length (now out))
         × (length (now «max_rt») ≤ 4096)
-        × EachOf (length (now «max_rt»)) (fileColumnsAt «max_rt» slope intercept) ⌝ }
+        × EachOf (length (now «max_rt»)) (fileColumnsAt «max_rt» slope intercept used) ⌝ }
     ensures { λ r. ⌜ Wrote
         (now (out .entry))
         at
-        (filesText 0 (recordsOf (fileColumnsOf «max_rt» slope intercept .entry)))
+        (filesText 0 (recordsOf (fileColumnsOf «max_rt» slope intercept used .entry)))
         r
         (now (out .exit)) ⌝ }
 {
@@ -60,6 +68,7 @@ fn write_files(out: &mut [u8], at: usize, max_rt: &[f32], slope: &[f32], interce
             max_rt: max_rt[i],
             slope: slope[i],
             intercept: intercept[i],
+            used: used[i],
         };
         next = write_file(out, next, i as u32, a);
         i += 1;
@@ -87,19 +96,20 @@ pub fn write_accepted(
     max_rt: &[f32],
     slope: &[f32],
     intercept: &[f32],
+    used: &[u32],
     aligned: &[f32],
 ) -> usize
-    requires { ⌜ (18 + 64 * length (now «max_rt») + 17 * length (now aligned) ≤ length (now out))
+    requires { ⌜ (18 + 80 * length (now «max_rt») + 17 * length (now aligned) ≤ length (now out))
         × (length (now «max_rt») ≤ 4096)
-        × EachOf (length (now «max_rt»)) (fileColumnsAt «max_rt» slope intercept) ⌝ }
+        × EachOf (length (now «max_rt»)) (fileColumnsAt «max_rt» slope intercept used) ⌝ }
     ensures { λ r. ⌜ Wrote
         (now (out .entry))
         0
-        (acceptedText (recordsOf (fileColumnsOf «max_rt» slope intercept .entry)) (now (aligned .entry)))
+        (acceptedText (recordsOf (fileColumnsOf «max_rt» slope intercept used .entry)) (now (aligned .entry)))
         r
         (now (out .exit)) ⌝ }
 {
     let at1 = write_status(out, 0, status::ACCEPTED);
-    let at2 = write_files(out, at1, max_rt, slope, intercept);
+    let at2 = write_files(out, at1, max_rt, slope, intercept, used);
     write_aligned(out, at2, aligned)
 }

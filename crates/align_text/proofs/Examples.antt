@@ -53,22 +53,23 @@ one files peptides file peptide rt =
     closed (files ∷ peptides ∷ file ∷ peptide ∷ "label=1" ∷ "q=00000000" ∷ rt ∷ [])
 
 -- the answer to a text with one file and one row
-abbrev answer : (max slope intercept aligned : String) → List ℕ
-answer max slope intercept aligned = closed ("status=0" ∷ "file=0" ∷ max ∷ slope ∷ intercept ∷ aligned ∷ [])
+abbrev answer : (max slope intercept used aligned : String) → List ℕ
+answer max slope intercept used aligned =
+    closed ("status=0" ∷ "file=0" ∷ max ∷ slope ∷ intercept ∷ used ∷ aligned ∷ [])
 
 -- a text and its answer: the program's row; the times 9.2, -3.0 and 5E9; no rows; and the table's examples of 2, 4, 5
 -- and 10
 abbrev tests : List (List ℕ × List ℕ)
 tests =
-    (one "files=1" "peptides=1" "file=0" "peptide=0" "rt=41200000", answer "max=41200000" "slope=00000000" "intercept=3F800000" "aligned=3F800000")
+    (one "files=1" "peptides=1" "file=0" "peptide=0" "rt=41200000", answer "max=41200000" "slope=00000000" "intercept=3F800000" "used=1" "aligned=3F800000")
     ∷
-    (one "files=1" "peptides=1" "file=0" "peptide=0" "rt=41133333", answer "max=41200000" "slope=00000000" "intercept=3F6B851E" "aligned=3F6B851E")
+    (one "files=1" "peptides=1" "file=0" "peptide=0" "rt=41133333", answer "max=41200000" "slope=00000000" "intercept=3F6B851E" "used=1" "aligned=3F6B851E")
     ∷
-    (one "files=1" "peptides=1" "file=0" "peptide=0" "rt=C0400000", answer "max=00000000" "slope=3F800000" "intercept=00000000" "aligned=FF800000")
+    (one "files=1" "peptides=1" "file=0" "peptide=0" "rt=C0400000", answer "max=00000000" "slope=3F800000" "intercept=00000000" "used=0" "aligned=FF800000")
     ∷
-    (one "files=1" "peptides=1" "file=0" "peptide=0" "rt=4F9502F9", answer "max=4F800000" "slope=00000000" "intercept=3F9502F9" "aligned=3F9502F9")
+    (one "files=1" "peptides=1" "file=0" "peptide=0" "rt=4F9502F9", answer "max=4F800000" "slope=00000000" "intercept=3F9502F9" "used=1" "aligned=3F9502F9")
     ∷
-    (closed ("files=1" ∷ "peptides=1" ∷ []), closed ("status=0" ∷ "file=0" ∷ "max=00000000" ∷ "slope=3F800000" ∷ "intercept=00000000" ∷ []))
+    (closed ("files=1" ∷ "peptides=1" ∷ []), closed ("status=0" ∷ "file=0" ∷ "max=00000000" ∷ "slope=3F800000" ∷ "intercept=00000000" ∷ "used=0" ∷ []))
     ∷ (closed ("files=0" ∷ "peptides=1" ∷ []), closed ("status=2" ∷ []))
     ∷ (one "files=2" "peptides=1" "file=2" "peptide=0" "rt=41200000", closed ("status=4" ∷ []))
     ∷ (one "files=1" "peptides=1" "file=0" "peptide=1" "rt=41200000", closed ("status=5" ∷ []))

@@ -1,18 +1,22 @@
--- No answer is longer than 4,882 bytes: the status, eight files and 256 rows.
+-- No answer is longer than 5,010 bytes: the status, eight files and 256 rows.
 use mathlib.Core.Path.{_≡_, refl, sym, ap, _∙_}
 use mathlib.Core.Bool.{Bool, true, false, cond}
 use mathlib.Core.List.{List, map}
 use mathlib.Core.Option.{Option, none, some}
 use Prim.Native.Nat.{ℕ, _≤_}
 use native.Mathlib.Omega.{arith}
-use lib.ListN.{length, length-map}
+use lib.ListN.{length, getD, length-map}
 use borrow.Author.Tests.{le-leb}
 use Rattle.matrix.specs.Lists.{overwritten}
+use Rattle.matrix.proofs.Lists.{length-tabulate}
 use Rattle.status.specs.Checks.{allBelow}
 use Rattle.status.specs.Status.{badFile, badPeptide}
-use Rattle.retention_alignment.specs.Alignments.{aligned}
+use Rattle.retention_alignment.specs.Observation.{maxRts, minRts}
+use Rattle.retention_alignment.specs.Alignments.{alignments, aligned}
+use Rattle.rt_matrix.proofs.RecordColumns.{noRecord}
+use Rattle.rt_matrix.proofs.Used.{used-few}
 use Rattle.retention_alignment.specs.Call as Call
-use Rattle.retention_alignment.specs.Call.{recordsFor, rows}
+use Rattle.retention_alignment.specs.Call.{recordsFor, rows, trainingRows}
 use Rattle.retention_alignment.proofs.Rows.{length-rows}
 use Rattle.align_input.specs.declared.TextRow.{TextRow}
 use Rattle.align_input.specs.Input.{Input}
@@ -40,7 +44,7 @@ use Rattle.align_text.proofs.Answers.{within}
 use Rattle.align_text.proofs.Contract.{fitting}
 
 abbrev pub longest : ℕ
-longest = 4882
+longest = 5010
 
 -- the longer of two texts
 either : (b : Bool) (x y : List ℕ) (n : ℕ) → (b ≡ true → length x ≤ n) → length y ≤ n
@@ -51,14 +55,22 @@ either false x y n h g = g
 status-short : (n : ℕ) → n ≤ 10 → length (statusText n) ≤ longest
 status-short n h = omega (arith, status-length n (omega arith))
 
-module _ (i : Call.Input) (files : i .files ≤ 8) (count : length (rows i) ≤ 256) where
+-- a file's count is at most the number of peptides
+counts : (i : Call.Input) (k : ℕ) → getD (recordsFor i) k noRecord .used ≤ i .peptides
+unfolding alignments minRts
+counts i k =
+    let times = minRts (i .files) (i .peptides) (trainingRows i) in
+    let count : length times ≡ i .peptides = length-tabulate _ _ in
+    omega (arith, used-few (maxRts (i .files) (rows i)) times k, count)
+
+module _ (i : Call.Input) (files : i .files ≤ 8) (peptides : i .peptides ≤ 64) (count : length (rows i) ≤ 256) where
   alignment-short : length (alignmentText i) ≤ longest
   unfolding alignmentText
   alignment-short =
       let t = map (aligned (recordsFor i)) (rows i) in
       let e = records-long i in
       let f : length t ≡ length (rows i) = length-map (rows i) (aligned (recordsFor i)) in
-      omega (arith, accepted-length (recordsFor i) t (omega (arith, e)), e, f)
+      omega (arith, accepted-length (recordsFor i) t (omega (arith, e)) (λ k l. omega (arith, counts i k)), e, f)
 
   columns-short : length (columnsText i) ≤ longest
   unfolding columnsText
@@ -81,7 +93,7 @@ input-short d =
     either (withinLimits (d .files) (d .peptides) (length (d .rows))) _ _ longest
     (λ h.
     let w = within (d .files) (d .peptides) (length (d .rows)) h in
-    columns-short (columnsOf d) (w .files) (omega (arith, rows-count d, w .rows)))
+    columns-short (columnsOf d) (w .files) (w .peptides) (omega (arith, rows-count d, w .rows)))
     (status-short 2 (omega arith))
 
 answer-short : (o : Option Input) → length (answerTo o) ≤ longest

@@ -22,7 +22,7 @@ pub const ROWS_MAX: usize = 256;
 // Cells of the alignment's workspace.
 const CELLS_MAX: usize = 512;
 
-// Bytes of the buffer that an answer is made in. An answer has at most 4,882.
+// Bytes of the buffer that an answer is made in. An answer has at most 5,010.
 const TEXT_MAX: usize = 8192;
 
 // What a call did.
@@ -98,6 +98,7 @@ fn answer_rows(
     let mut max_rt = [0.0f32; FILES_MAX];
     let mut slope = [0.0f32; FILES_MAX];
     let mut intercept = [0.0f32; FILES_MAX];
+    let mut used = [0u32; FILES_MAX];
     let mut aligned = [0.0f32; ROWS_MAX];
     let answer = retention_alignment::global_alignment(
         file,
@@ -111,6 +112,7 @@ fn answer_rows(
         &mut max_rt,
         &mut slope,
         &mut intercept,
+        &mut used,
         &mut aligned,
     );
     let AlignAnswer::Refused(status) = answer else {
@@ -119,6 +121,7 @@ fn answer_rows(
             &max_rt[..files],
             &slope[..files],
             &intercept[..files],
+            &used[..files],
             &aligned[..rows],
         );
         return Buffered {
@@ -163,7 +166,7 @@ fn answer_text(input: &[u8], out: &mut [u8]) -> Buffered
 }
 
 // The program: reads a text and writes its answer at the start of output. Where the answer is longer than output,
-// nothing is written. No answer is longer than 4,882 bytes.
+// nothing is written. No answer is longer than 5,010 bytes.
 pub fn align_text(input: &[u8], output: &mut [u8]) -> TextAnswer
     ensures { λ r. ⌜ Answered (now (input .entry)) (now (output .entry)) r (now (output .exit)) ⌝ }
 {

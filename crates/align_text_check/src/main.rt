@@ -66,12 +66,12 @@ fn numbers() {
     text(peptide, 0);
 }
 
-// Document 01's text, whose answer has 80 bytes. 0: it fits, with room to spare and just so. 3: it does not.
+// Document 01's text, whose answer has 87 bytes. 0: it fits, with room to spare and just so. 3: it does not.
 fn accepted() {
     let input = b"files=1\npeptides=1\nfile=0\npeptide=0\nlabel=1\nq=00000000\nrt=41200000\n";
     text(input, 128);
-    text(input, 80);
-    text(input, 79);
+    text(input, 87);
+    text(input, 86);
     text(input, 0);
 }
 

@@ -1,6 +1,6 @@
 // Replays stored alignments of the Rust. Standard input is the number of batches and then, for each, the numbers of
 // files, peptides and rows and the columns file, peptide, label, q and rt; standard output is, for each, the status
-// and the columns max_rt, slope, intercept and aligned.
+// and the columns max_rt, slope, intercept, used and aligned.
 use retention_alignment::AlignAnswer;
 use vectors::Token;
 
@@ -25,6 +25,7 @@ fn answer(
     let mut max_rt = [0.0f32; FILES];
     let mut slope = [0.0f32; FILES];
     let mut intercept = [0.0f32; FILES];
+    let mut used = [0u32; FILES];
     let mut aligned = [0.0f32; ROWS];
     let a = retention_alignment::global_alignment(
         file,
@@ -38,6 +39,7 @@ fn answer(
         &mut max_rt,
         &mut slope,
         &mut intercept,
+        &mut used,
         &mut aligned,
     );
     match a {
@@ -47,6 +49,7 @@ fn answer(
             vectors::write_first_f32s(&max_rt, files);
             vectors::write_first_f32s(&slope, files);
             vectors::write_first_f32s(&intercept, files);
+            vectors::write_first_u32s(&used, files);
             vectors::write_first_f32s(&aligned, file.len());
         }
     }

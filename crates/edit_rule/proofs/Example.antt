@@ -187,7 +187,7 @@ abbrev outputs : ModelOutputs
 outputs = record { coefficients = hundred; predicted = hundred; error = hundred }
 
 abbrev records : FileColumns
-records = record { maxRt = hundred; slope = hundred; intercept = hundred }
+records = record { maxRt = hundred; slope = hundred; intercept = hundred; used = replicate 100 0 }
 
 abbrev slices : Slices
 slices =

@@ -2,9 +2,9 @@
 use mathlib.Core.Path.{_≡_, refl}
 use mathlib.Core.Bool.{true}
 use mathlib.Core.List.{zipWith, headD}
-use lib.Ieee.{sub, mul, div, le, ofInt, ofBits, toBits}
+use lib.Ieee.{sub, mul, div, le, ofInt, ofBits, toBits, isNan}
 use Rattle.float.specs.Convert.{narrowed, ceiling}
-use Rattle.float.specs.Value.{isFinite, isNormal}
+use Rattle.float.specs.Value.{isFinite, isNormal, minimum}
 use Rattle.mass.specs.Mass.{columnOf, placeFrom, validAa}
 use Rattle.matrix.specs.Rows.{rowsOf, flat}
 use Rattle.status.specs.Checks.{every}
@@ -38,5 +38,5 @@ use Rattle.align_text.specs.AlignText.{alignText}
 use Rattle.examples.specs.Examples.{sameList, holds, examples}
 
 pub all-hold : every holds examples ≡ true
-unfolding every sameList examples zipWith headD sub mul div le ofInt ofBits toBits narrowed ceiling isFinite isNormal columnOf placeFrom validAa rowsOf flat trains mask kept indexed augmented zipped largest cleared clearBelow columnEliminated echelonFrom leadingZeros divided lessMultiple clearAbove backfillFrom rowSolved solvedFrom eliminate ridgesFrom firstSolved solutionOf normal fitOf design tabulate share present mean keptRows pointOf points finiteOr lineOf line lines observations maxRt maxRts times smaller minRt minRts alignments onLine aligned statusBy filled slicesAfter alignText
+unfolding every sameList examples zipWith headD sub mul div le ofInt ofBits toBits narrowed ceiling isFinite isNormal isNan minimum columnOf placeFrom validAa rowsOf flat trains mask kept indexed augmented zipped largest cleared clearBelow columnEliminated echelonFrom leadingZeros divided lessMultiple clearAbove backfillFrom rowSolved solvedFrom eliminate ridgesFrom firstSolved solutionOf normal fitOf design tabulate share present mean keptRows pointOf points finiteOr lineOf line lines observations maxRt maxRts times smaller minRt minRts alignments onLine aligned statusBy filled slicesAfter alignText
 all-hold = refl

@@ -63,7 +63,8 @@ oneFile peptides times =
 abbrev pub longest : Input → List ℕ
 longest i = maxRts (i .files) (rows i)
 
--- slices of the needed lengths before a call, where there is one file: no cell holds a number
+-- slices of the needed lengths before a call, where there is one file: no cell holds a number, and the count is none
+-- that an example gives
 abbrev pub unwritten : ℕ → List Float
 unwritten n = replicate n nan
 
@@ -71,7 +72,7 @@ abbrev pub before : Input → Slices
 before i =
     record {
       workspace = unwritten (i .peptides);
-      records = record { maxRt = unwritten 1; slope = unwritten 1; intercept = unwritten 1 };
+      records = record { maxRt = unwritten 1; slope = unwritten 1; intercept = unwritten 1; used = 7 ∷ [] };
       aligned = unwritten (length (i .file));
     }
 
@@ -79,11 +80,13 @@ before i =
 abbrev pub after : Input → Slices
 after i = slicesAfter i (before i)
 
--- the status, then as bits the file's longest time, slope and intercept, and the rows' aligned times
+-- the status, as bits the file's longest time, slope and intercept, how many peptides carry it, and as bits the rows'
+-- aligned times
 abbrev pub alignment : Input → List ℕ
 alignment i =
     let r = after i .records in
-    status i (before i) ∷ bits binary32 (r .maxRt ++ r .slope ++ r .intercept ++ after i .aligned)
+    let line = bits binary32 (r .maxRt ++ r .slope ++ r .intercept) in
+    status i (before i) ∷ line ++ r .used ++ bits binary32 (after i .aligned)
 
 -- ---- the program
 
@@ -173,11 +176,15 @@ examples =
           longest i ++ bits binary32 (after i .records .maxRt);
       said = 4_294_967_295 ∷ 0x4F80_0000 ∷ [];
     }
-    -- "no rows: slope 1, intercept 0, longest 0", without peptides and with one
+    -- "no rows: slope 1, intercept 0, longest 0", without peptides and with one: no peptide carries the file
     ∷ record {
       given = alignment (oneFile 0 []) ++ alignment (oneFile 1 []);
-      said = 0 ∷ 0 ∷ 0x3F80_0000 ∷ 0 ∷ 0 ∷ 0 ∷ 0x3F80_0000 ∷ 0 ∷ [];
+      said = 0 ∷ 0 ∷ 0x3F80_0000 ∷ 0 ∷ 0 ∷ 0 ∷ 0 ∷ 0x3F80_0000 ∷ 0 ∷ 0 ∷ [];
     }
+    -- how many carry it: one whose two rows have the times 10.0 and 5.0, and none where the peptide is dropped, since
+    -- -3.0 over the longest time 0 is no normal number
+    ∷ record { given = after (oneFile 1 (0x4120_0000 ∷ 0x40A0_0000 ∷ [])) .records .used; said = 1 ∷ [] }
+    ∷ record { given = after (oneFile 1 (0xC040_0000 ∷ [])) .records .used; said = 0 ∷ [] }
     -- "the program's row": its text, and the text that is printed
     ∷ record {
       given =
@@ -198,6 +205,7 @@ examples =
           ∷ "max=41200000"
           ∷ "slope=00000000"
           ∷ "intercept=3F800000"
+          ∷ "used=1"
           ∷ "aligned=3F800000"
           ∷ []);
     }

@@ -2,12 +2,14 @@
 // them. They are parts of arrays, which are looked at whole.
 use regression::FitOutcome;
 
-// What every cell and every value holds before a call.
+// What every cell, every value and every count holds before a call.
 pub const CELL: f64 = 7.5;
 
 pub const VALUE: f32 = 7.5;
 
-// The lengths of the workspace, of an output of f64 and of an output of f32.
+pub const COUNT: u32 = 7;
+
+// The lengths of the workspace, of an output of f64, and of an output of f32 or of counts.
 pub const WORKSPACE: usize = 20300;
 
 pub const CELLS: usize = 101;
@@ -53,13 +55,26 @@ pub fn changed32(n: u64, values: &[f32; VALUES]) -> u64 {
     count
 }
 
-// How many values of the files' records changed.
-pub fn changed_lines(
+// For an output of counts.
+fn changed_counts(n: u64, counts: &[u32; VALUES]) -> u64 {
+    let mut count = n;
+    for i in 0..VALUES {
+        if counts[i] != COUNT {
+            count = std::num::wrapping_add_u64(count, 1);
+        }
+    }
+    count
+}
+
+// How many fields of the files' records changed.
+pub fn changed_records(
     max_rt: &[f32; VALUES],
     slope: &[f32; VALUES],
     intercept: &[f32; VALUES],
+    used: &[u32; VALUES],
 ) -> u64 {
-    changed32(changed32(changed32(0, max_rt), slope), intercept)
+    let lines = changed32(changed32(changed32(0, max_rt), slope), intercept);
+    changed_counts(lines, used)
 }
 
 // n, and how many cells of a model's outputs changed.

@@ -38,6 +38,7 @@ fn canonical(found: Found) -> Found
             max_rt: float::canonical32(a.max_rt),
             slope: float::canonical32(a.slope),
             intercept: float::canonical32(a.intercept),
+            used: a.used,
         }),
         Found::Refused(status) => Found::Refused(status),
     }

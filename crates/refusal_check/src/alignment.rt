@@ -1,6 +1,7 @@
 // Calls of the alignment. Each output has four cells.
 ghost use Prim.Native.Nat.{_≤_};
 use held::CELL;
+use held::COUNT;
 use held::VALUE;
 use held::VALUES;
 use held::WORKSPACE;
@@ -30,6 +31,7 @@ fn align(
     let mut max_rt = [VALUE; VALUES];
     let mut slope = [VALUE; VALUES];
     let mut intercept = [VALUE; VALUES];
+    let mut used = [COUNT; VALUES];
     let mut aligned = [VALUE; VALUES];
     let answer = retention_alignment::global_alignment(
         file,
@@ -43,12 +45,13 @@ fn align(
         &mut max_rt,
         &mut slope,
         &mut intercept,
+        &mut used,
         &mut aligned,
     );
     vectors::write_token(number(answer));
     held::write_workspace(&workspace);
-    let lines = held::changed_lines(&max_rt, &slope, &intercept);
-    vectors::write_token(held::changed32(lines, &aligned));
+    let records = held::changed_records(&max_rt, &slope, &intercept, &used);
+    vectors::write_token(held::changed32(records, &aligned));
 }
 
 // A row with the time 10.0.

@@ -3,6 +3,7 @@
 ghost use Prim.Native.Nat.{_≤_};
 use held::CELL;
 use held::CELLS;
+use held::COUNT;
 use held::VALUE;
 use held::VALUES;
 use held::WORKSPACE;
@@ -46,6 +47,7 @@ fn run(
     let mut max_rt = [VALUE; VALUES];
     let mut slope = [VALUE; VALUES];
     let mut intercept = [VALUE; VALUES];
+    let mut used = [COUNT; VALUES];
     let mut aligned = [VALUE; VALUES];
     let mut retention_beta = [CELL; CELLS];
     let mut retention_predicted = [VALUE; VALUES];
@@ -70,6 +72,7 @@ fn run(
         &mut max_rt,
         &mut slope,
         &mut intercept,
+        &mut used,
         &mut aligned,
         &mut retention_beta,
         &mut retention_predicted,
@@ -80,8 +83,8 @@ fn run(
     );
     write_numbers(answer);
     held::write_workspace(&workspace);
-    let lines = held::changed_lines(&max_rt, &slope, &intercept);
-    let times = held::changed32(lines, &aligned);
+    let records = held::changed_records(&max_rt, &slope, &intercept, &used);
+    let times = held::changed32(records, &aligned);
     let n = held::changed_model(
         times,
         &retention_beta,

@@ -1,17 +1,25 @@
 -- The rows from i on, as columns that are walked side by side.
 use mathlib.Core.Path.{_≡_, refl, sym, ap, ap₂, _∙_}
 use mathlib.Core.Bool.{Bool, true, false, cond}
-use mathlib.Core.List.{List, [], _∷_}
+use mathlib.Core.List.{List, [], _∷_, map}
 use Prim.Native.Nat.{ℕ, zero, suc, _+_, _≤_, _<_}
 use native.Mathlib.Nat.{le-of-suc-le-suc, not-suc-le-zero}
 use native.Mathlib.Numerals.{add-one}
 use native.Mathlib.Omega.{arith}
+use borrow.Author.Tests.{ltb-true}
+use lib.Dec.{ltb}
 use lib.IntN.{ℤ, pos}
 use lib.ListN.{length, getD, drop, drop-of-length-le}
 use lib.Seq.{drop-cons}
 use lib.Ieee.{Float, nan}
+use Rattle.status.specs.Checks.{every, allBelow}
+use Rattle.status.proofs.Laws.{and-true}
 use Rattle.feature.specs.Feature.{trains, mask, kept}
+use Rattle.rt_matrix.specs.Columns.{FileColumns, EachOf, recordsOf}
+use Rattle.rt_matrix.specs.declared.Alignment.{Alignment}
+use Rattle.rt_matrix.proofs.RecordColumns.{records-at}
 use Rattle.retention_alignment.specs.Observation.{Obs, observations}
+use Rattle.retention_alignment.specs.Alignments.{alignedBy, noAlignment, aligned, alignedIn}
 
 module _ (fs ps : List ℕ) (ts : List Float) where
   -- the rows from i on, and the row at i
@@ -77,3 +85,17 @@ module _ (fs ps : List ℕ) (ts : List Float) where
         nothing : (m : List Bool) → kept {A = Obs} m [] ≡ []
         nothing [] = refl
         nothing (b ∷ m) = refl
+
+-- rows whose files have records: the times by the three columns are the times by the records
+pub by-records : (c : FileColumns) (n : ℕ) → EachOf n c → (fs ps : List ℕ) (ts : List Float)
+    → allBelow n fs ≡ true
+    → map (alignedIn (c .maxRt) (c .slope) (c .intercept)) (observations fs ps ts)
+    ≡ map (aligned (recordsOf c)) (observations fs ps ts)
+unfolding observations aligned every
+by-records c n e [] ps ts h = refl
+by-records c n e (f ∷ fs) [] ts h = refl
+by-records c n e (f ∷ fs) (p ∷ ps) [] h = refl
+by-records c n e (f ∷ fs) (p ∷ ps) (t ∷ ts) h =
+    let both = and-true (ltb f n) (allBelow n fs) h in
+    let at = records-at c n e f noAlignment (ltb-true f n (both .0)) in
+    ap₂ (λ (a : Alignment) (rest : List Float). alignedBy a t ∷ rest) (sym at) (by-records c n e fs ps ts (both .1))

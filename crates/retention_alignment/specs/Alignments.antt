@@ -3,7 +3,7 @@
 use Prim.Native.Nat.{ℕ}
 use mathlib.Core.List.{List}
 use lib.ListN.{getD}
-use lib.Ieee.{Float, binary32, add, mul, div, ofBits}
+use lib.Ieee.{Float, nan, binary32, add, mul, div, ofBits}
 use Rattle.rt_matrix.specs.Line.{lines}
 use Rattle.rt_matrix.specs.declared.Alignment.{Alignment}
 use Rattle.retention_alignment.specs.Observation.{Obs, minRts}
@@ -22,8 +22,14 @@ alignedBy a t = onLine (a .«max_rt») (a .slope) (a .intercept) t
 
 -- what stands for a file that has no record: no accepted row has such a file
 abbrev pub noAlignment : Alignment
-noAlignment = record { «max_rt» = ofBits binary32 0; slope = ofBits binary32 0; intercept = ofBits binary32 0 }
+noAlignment =
+    record { «max_rt» = ofBits binary32 0; slope = ofBits binary32 0; intercept = ofBits binary32 0; used = 0 }
 
 -- a row's aligned time: by its file's record
 unfoldable pub aligned : List Alignment → Obs → Float
 aligned records o = alignedBy (getD records (o .file) noAlignment) (o .rt)
+
+-- the same by the three columns of the records that a time goes by, where each has a cell for the row's file
+abbrev pub alignedIn : (maxRt slope intercept : List Float) → Obs → Float
+alignedIn maxRt slope intercept o =
+    onLine (getD maxRt (o .file) nan) (getD slope (o .file) nan) (getD intercept (o .file) nan) (o .rt)

@@ -6,9 +6,9 @@ ghost use mathlib.Core.List.{List, map};
 ghost use Prim.Native.Nat.{ℕ, _*_, _<_, _^_};
 ghost use lib.ListN.{length};
 ghost use Rattle.status.specs.Checks.{allBelow};
-ghost use Rattle.rt_matrix.specs.Columns.{EachOf, fileColumnsAt, fileColumnsOf, recordsOf};
+ghost use Rattle.rt_matrix.specs.Columns.{fileColumnsAt, fileColumnsOf};
 ghost use Rattle.retention_alignment.specs.Observation.{observations};
-ghost use Rattle.retention_alignment.specs.Alignments.{onLine, aligned as alignedRow};
+ghost use Rattle.retention_alignment.specs.Alignments.{onLine, alignedIn};
 ghost use Rattle.retention_alignment.specs.Call.{
   inputAt,
   inputOf,
@@ -48,7 +48,7 @@ pub fn aligned_time(max_rt: f32, slope: f32, intercept: f32, rt: f32) -> f32
     float::canonical32(rt / max_rt * slope + intercept)
 }
 
-// Writes each row's aligned time, by its file's record. The peptides' numbers are not read.
+// Writes each row's aligned time, by its file's longest time, slope and intercept. The peptides' numbers are not read.
 fn align_rows(
     file: &[u32],
     rt: &[f32],
@@ -60,10 +60,11 @@ fn align_rows(
     requires { ⌜ (length (now rt) ≡ length (now file))
         × (length (now aligned) ≡ length (now file))
         × (allBelow (length (now «max_rt»)) (now file) ≡ true)
-        × EachOf (length (now «max_rt»)) (fileColumnsAt «max_rt» slope intercept) ⌝ }
+        × (length (now slope) ≡ length (now «max_rt»))
+        × (length (now intercept) ≡ length (now «max_rt»)) ⌝ }
     ensures { λ _. ⌜ ((ps : List ℕ) → length ps ≡ length (now (file .entry))
         → now (aligned .exit)
-        ≡ map (alignedRow (recordsOf (fileColumnsOf «max_rt» slope intercept .entry)))
+        ≡ map (alignedIn (now («max_rt» .entry)) (now (slope .entry)) (now (intercept .entry)))
         (observations (now (file .entry)) ps (now (rt .entry)))) ⌝ }
 {
     let mut i = 0usize;
@@ -135,25 +136,34 @@ fn align(
     max_rt: &mut [f32],
     slope: &mut [f32],
     intercept: &mut [f32],
+    used: &mut [u32],
     aligned: &mut [f32],
 )
     requires { ⌜ Checked
         (inputAt file peptide label q rt files peptides)
-        (slicesAt cells (fileColumnsAt «max_rt» slope intercept) aligned) ⌝ }
+        (slicesAt cells (fileColumnsAt «max_rt» slope intercept used) aligned) ⌝ }
     ensures { λ _. ⌜ Written
         (inputOf file peptide label q rt files peptides)
-        (slicesOf cells (fileColumnsOf «max_rt» slope intercept) aligned .exit) ⌝ }
+        (slicesOf cells (fileColumnsOf «max_rt» slope intercept used) aligned .exit) ⌝ }
 {
     let mut max = [0u32; MAX_FILES];
     times::max_rt_by_file(file, rt, &mut max[..files]);
     times::mean_rt_by_file(file, peptide, label, q, rt, files as u32, peptides, cells);
-    rt_matrix::fit_lines(cells, &max[..files], peptides, max_rt, slope, intercept);
+    rt_matrix::fit_lines(
+        cells,
+        &max[..files],
+        peptides,
+        max_rt,
+        slope,
+        intercept,
+        used,
+    );
     align_rows(file, rt, max_rt, slope, intercept, aligned);
     matrix::zeros(cells);
 }
 
-// The alignment. Of the workspace it needs peptides × files cells, of the outputs max_rt, slope and intercept one
-// for each file, and of aligned one for each row; what is longer keeps its rest, and a refused call leaves every
+// The alignment. Of the workspace it needs peptides × files cells, of the outputs max_rt, slope, intercept and used
+// one for each file, and of aligned one for each row; what is longer keeps its rest, and a refused call leaves every
 // slice as it was.
 pub fn global_alignment(
     file: &[u32],
@@ -167,17 +177,19 @@ pub fn global_alignment(
     max_rt: &mut [f32],
     slope: &mut [f32],
     intercept: &mut [f32],
+    used: &mut [u32],
     aligned: &mut [f32],
 ) -> AlignAnswer
     ensures { λ r. ⌜ Aligned
         (inputOf file peptide label q rt files peptides)
-        (slicesOf workspace (fileColumnsOf «max_rt» slope intercept) aligned)
+        (slicesOf workspace (fileColumnsOf «max_rt» slope intercept used) aligned)
         r ⌝ }
 {
     let records = FileRoom {
         max_rt: max_rt.len(),
         slope: slope.len(),
         intercept: intercept.len(),
+        used: used.len(),
     };
     let room = Room {
         workspace: workspace.len(),
@@ -202,6 +214,7 @@ pub fn global_alignment(
         &mut max_rt[..files],
         &mut slope[..files],
         &mut intercept[..files],
+        &mut used[..files],
         &mut aligned[..rows],
     );
     AlignAnswer::Accepted

@@ -7,3 +7,4 @@ pub mod SumColumns
 pub mod SpreadColumns
 pub mod RecordColumns
 pub mod Fitted
+pub mod Used

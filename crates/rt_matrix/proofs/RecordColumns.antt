@@ -1,5 +1,5 @@
 -- The files' records, which lie in a column for each field, as one list: the place where laws name the fields.
-use mathlib.Core.Path.{_≡_, refl, sym, ap, _∙_}
+use mathlib.Core.Path.{_≡_, refl, sym, ap, ap₂, _∙_}
 use mathlib.Core.Bool.{Bool, true, _&&_}
 use mathlib.Core.List.{List, [], _∷_, map, zip, zipWith}
 use Prim.Native.Nat.{ℕ, _≤_, _<_}
@@ -40,10 +40,10 @@ use Rattle.rt_matrix.proofs.SumColumns.{noSums}
 
 -- what stands past the end of a list of records
 abbrev pub noRecord : Alignment
-noRecord = record { «max_rt» = nan; slope = nan; intercept = nan }
+noRecord = record { «max_rt» = nan; slope = nan; intercept = nan; used = 0 }
 
-abbrev row : Float × Float → Float → Alignment
-row p i = record { «max_rt» = p .0; slope = p .1; intercept = i }
+abbrev row : Float × Float → Float × ℕ → Alignment
+row p q = record { «max_rt» = p .0; slope = p .1; intercept = q .0; used = q .1 }
 
 abbrev fitted : ℕ × Sums → Float → Alignment
 fitted p q = lineOf (p .0) (p .1 .len) (p .1 .dot) (p .1 .«sum_x») (p .1 .«sum_y») q
@@ -57,53 +57,73 @@ storedAt f a c =
       maxRt = set (c .maxRt) f (a .«max_rt»);
       slope = set (c .slope) f (a .slope);
       intercept = set (c .intercept) f (a .intercept);
+      used = set (c .used) f (a .used);
     }
 
 -- the record at a place
 abbrev pub recordAt : FileColumns → ℕ → Alignment
 recordAt c f =
-    record { «max_rt» = getD (c .maxRt) f nan; slope = getD (c .slope) f nan; intercept = getD (c .intercept) f nan }
+    record {
+      «max_rt» = getD (c .maxRt) f nan;
+      slope = getD (c .slope) f nan;
+      intercept = getD (c .intercept) f nan;
+      used = getD (c .used) f 0;
+    }
 
 module _ (c : FileColumns) where
   pub records-set : (f : ℕ) (a : Alignment) → recordsOf (storedAt f a c) ≡ set (recordsOf c) f a
   records-set f a =
-      ap (λ (l : List (Float × Float)). zipWith row l (set (c .intercept) f (a .intercept)))
+      ap₂ (zipWith row)
       (zip-set (c .maxRt) (c .slope) f (a .«max_rt») (a .slope))
-      ∙ zipWith-set row (zip (c .maxRt) (c .slope)) (c .intercept) f (a .«max_rt», a .slope) (a .intercept)
+      (zip-set (c .intercept) (c .used) f (a .intercept) (a .used))
+      ∙ zipWith-set row (zip (c .maxRt) (c .slope)) (zip (c .intercept) (c .used)) f (a .«max_rt», a .slope)
+      (a .intercept, a .used)
 
   module _ (n : ℕ) (e : EachOf n c) where
-    both : length (zip (c .maxRt) (c .slope)) ≡ n
-    both = length-zip (c .maxRt) (c .slope) (omega (arith, e .maxRt, e .slope)) ∙ e .maxRt
+    left : length (zip (c .maxRt) (c .slope)) ≡ n
+    left = length-zip (c .maxRt) (c .slope) (omega (arith, e .maxRt, e .slope)) ∙ e .maxRt
+
+    right : length (zip (c .intercept) (c .used)) ≡ n
+    right = length-zip (c .intercept) (c .used) (omega (arith, e .intercept, e .used)) ∙ e .intercept
 
     pub length-records : length (recordsOf c) ≡ n
     length-records =
-        length-zipWith row (zip (c .maxRt) (c .slope)) (c .intercept) (omega (arith, both, e .intercept)) ∙ both
+        length-zipWith row (zip (c .maxRt) (c .slope)) (zip (c .intercept) (c .used)) (omega (arith, left, right))
+        ∙ left
 
     pub records-at : (f : ℕ) (d : Alignment) → f < n → getD (recordsOf c) f d ≡ recordAt c f
     records-at f d h =
-        getD-zipWith row (zip (c .maxRt) (c .slope)) (c .intercept) f (nan, nan) nan d
-        (omega (arith, both))
-        (omega (arith, e .intercept))
-        ∙ ap (λ (p : Float × Float). row p (getD (c .intercept) f nan))
+        getD-zipWith row (zip (c .maxRt) (c .slope)) (zip (c .intercept) (c .used)) f (nan, nan) (nan, 0) d
+        (omega (arith, left))
+        (omega (arith, right))
+        ∙ ap₂ row
         (getD-zip (c .maxRt) (c .slope) f nan nan (omega (arith, e .maxRt)) (omega (arith, e .slope)))
+        (getD-zip (c .intercept) (c .used) f nan 0 (omega (arith, e .intercept)) (omega (arith, e .used)))
 
 -- the columns of records that were made of columns of one length
-columns-by : (ms ss is : List Float) → length ss ≡ length ms → length is ≡ length ms
-    → columnsOf (recordsOf (record { maxRt = ms; slope = ss; intercept = is }))
-    ≡ record { maxRt = ms; slope = ss; intercept = is }
+columns-by : (ms ss is : List Float) (us : List ℕ) → length ss ≡ length ms → length is ≡ length ms
+    → length us ≡ length ms
+    → columnsOf (recordsOf (record { maxRt = ms; slope = ss; intercept = is; used = us }))
+    ≡ record { maxRt = ms; slope = ss; intercept = is; used = us }
 unfolding zip zipWith
-columns-by [] [] [] hs hi = refl
-columns-by [] [] (i ∷ is) hs hi = absurd (omega arith)
-columns-by [] (s ∷ ss) is hs hi = absurd (omega arith)
-columns-by (m ∷ ms) [] is hs hi = absurd (omega arith)
-columns-by (m ∷ ms) (s ∷ ss) [] hs hi = absurd (omega arith)
-columns-by (m ∷ ms) (s ∷ ss) (i ∷ is) hs hi =
-    ap (λ (c : FileColumns). record { maxRt = m ∷ c .maxRt; slope = s ∷ c .slope; intercept = i ∷ c .intercept })
-    (columns-by ms ss is (omega arith) (omega arith))
+columns-by [] [] [] [] hs hi hu = refl
+columns-by [] [] [] (u ∷ us) hs hi hu = absurd (omega arith)
+columns-by [] [] (i ∷ is) us hs hi hu = absurd (omega arith)
+columns-by [] (s ∷ ss) is us hs hi hu = absurd (omega arith)
+columns-by (m ∷ ms) [] is us hs hi hu = absurd (omega arith)
+columns-by (m ∷ ms) (s ∷ ss) [] us hs hi hu = absurd (omega arith)
+columns-by (m ∷ ms) (s ∷ ss) (i ∷ is) [] hs hi hu = absurd (omega arith)
+columns-by (m ∷ ms) (s ∷ ss) (i ∷ is) (u ∷ us) hs hi hu =
+    ap
+    (λ (c : FileColumns).
+    record { maxRt = m ∷ c .maxRt; slope = s ∷ c .slope; intercept = i ∷ c .intercept; used = u ∷ c .used })
+    (columns-by ms ss is us (omega arith) (omega arith) (omega arith))
 
 pub columns-are : (n : ℕ) (c : FileColumns) → EachOf n c → columnsOf (recordsOf c) ≡ c
 columns-are n c e =
-    columns-by (c .maxRt) (c .slope) (c .intercept) (e .slope ∙ sym (e .maxRt)) (e .intercept ∙ sym (e .maxRt))
+    columns-by (c .maxRt) (c .slope) (c .intercept) (c .used) (e .slope ∙ sym (e .maxRt))
+    (e .intercept ∙ sym (e .maxRt))
+    (e .used ∙ sym (e .maxRt))
 
 -- records that were taken apart into columns
 pub records-back : (records : List Alignment) → recordsOf (columnsOf records) ≡ records
@@ -120,6 +140,7 @@ from-less more n c h l =
       maxRt = omega (arith, l .maxRt);
       slope = omega (arith, l .slope);
       intercept = omega (arith, l .intercept);
+      used = omega (arith, l .used);
     }
 
 -- columns that have n cells at least: their first n, and back in front of the rest
@@ -130,6 +151,7 @@ module _ (n : ℕ) (c : FileColumns) where
         maxRt = length-take-le n (c .maxRt) (l .maxRt);
         slope = length-take-le n (c .slope) (l .slope);
         intercept = length-take-le n (c .intercept) (l .intercept);
+        used = length-take-le n (c .used) (l .used);
       }
 
   pub in-front : (part : FileColumns) (records : List Alignment) → EachOf n part → recordsOf part ≡ records
@@ -145,28 +167,39 @@ module _ (n : ℕ) (c : FileColumns) where
       let intercept-is =
       overwrite-front (columnsOf records .intercept) (part .intercept) (c .intercept) n
       (ap (λ (d : FileColumns). d .intercept) same) (e .intercept) in
-      λ k. record { maxRt = maxRt-is k; slope = slope-is k; intercept = intercept-is k }
+      let used-is =
+      overwrite-front (columnsOf records .used) (part .used) (c .used) n
+      (ap (λ (d : FileColumns). d .used) same) (e .used) in
+      λ k. record { maxRt = maxRt-is k; slope = slope-is k; intercept = intercept-is k; used = used-is k }
 
   -- the first cells of columns that were written over
   pub first-written : (records : List Alignment) → length records ≡ n
       → firstOf n (writtenOver (columnsOf records) c) ≡ columnsOf records
   first-written records l =
       let field : (f : Alignment → Float) → length (map f records) ≡ n = λ f. length-map records f ∙ l in
+      let counts : length (columnsOf records .used) ≡ n = length-map records (λ (a : Alignment). a .used) ∙ l in
       let maxRt-is = take-at (columnsOf records .maxRt) _ n (field (λ a. a .«max_rt»)) in
       let slope-is = take-at (columnsOf records .slope) _ n (field (λ a. a .slope)) in
       let intercept-is = take-at (columnsOf records .intercept) _ n (field (λ a. a .intercept)) in
-      λ k. record { maxRt = maxRt-is k; slope = slope-is k; intercept = intercept-is k }
+      let used-is = take-at (columnsOf records .used) _ n counts in
+      λ k. record { maxRt = maxRt-is k; slope = slope-is k; intercept = intercept-is k; used = used-is k }
 
 -- ---- check 3 of the columns
 
 pub long-columns : (n : ℕ) (c : FileColumns) → eachLong n (fileRoom c) ≡ true → EachFrom n c
 long-columns n c e =
-    let s = and-true (leb n (length (c .maxRt)) && leb n (length (c .slope))) (leb n (length (c .intercept))) e in
-    let t = and-true (leb n (length (c .maxRt))) (leb n (length (c .slope))) (s .0) in
+    let maxRt = leb n (length (c .maxRt)) in
+    let slope = leb n (length (c .slope)) in
+    let intercept = leb n (length (c .intercept)) in
+    let used = leb n (length (c .used)) in
+    let all = and-true (maxRt && slope && intercept) used e in
+    let line = and-true (maxRt && slope) intercept (all .0) in
+    let front = and-true maxRt slope (line .0) in
     record {
-      maxRt = leb-true n (length (c .maxRt)) (t .0);
-      slope = leb-true n (length (c .slope)) (t .1);
-      intercept = leb-true n (length (c .intercept)) (s .1);
+      maxRt = leb-true n (length (c .maxRt)) (front .0);
+      slope = leb-true n (length (c .slope)) (front .1);
+      intercept = leb-true n (length (c .intercept)) (line .1);
+      used = leb-true n (length (c .used)) (all .1);
     }
 
 pub columns-long : (n : ℕ) (c : FileColumns) → EachFrom n c → eachLong n (fileRoom c) ≡ true
@@ -175,6 +208,7 @@ columns-long n c l =
       le-leb n (length (c .maxRt)) (l .maxRt),
       le-leb n (length (c .slope)) (l .slope),
       le-leb n (length (c .intercept)) (l .intercept),
+      le-leb n (length (c .used)) (l .used),
     )
 
 -- ---- the records from the files' sums

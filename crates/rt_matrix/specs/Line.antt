@@ -76,8 +76,8 @@ sx2 m ps = sumFrom sx2Start (map (λ p. squared m (p .x)) ps)
 unfoldable pub finiteOr : Float → Float → Float
 finiteOr d x = cond (isFinite x) x d
 
--- The record of a file with the longest time m, from the sums over its n points. The intercept goes by the slope as
--- it was worked out.
+-- The record of a file with the longest time m, from the sums over its n points, one for each kept peptide that has a
+-- time there. The intercept goes by the slope as it was worked out.
 unfoldable pub lineOf : ℕ → ℕ → Float → Float → Float → Float → Alignment
 lineOf m n dot sumX sumY sx2 =
     let xMean = div binary64 sumX (number n) in
@@ -88,6 +88,7 @@ lineOf m n dot sumX sumY sx2 =
       «max_rt» = narrowed (number m);
       slope = narrowed (finiteOr one64 slope);
       intercept = narrowed (finiteOr zero64 intercept);
+      used = n;
     }
 
 -- the record of a file with the longest time m, from its points

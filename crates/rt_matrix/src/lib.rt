@@ -18,12 +18,14 @@ pub use mean::ABSENT;
 use status::MAX_FILES;
 use sums::Sums;
 
-// A file's record: its longest time, and its line. Hosts pass lists of it, hence the layout of C.
+// A file's record: its longest time, its line, and how many kept peptides carry the line. Hosts pass lists of it, hence
+// the layout of C.
 #[repr(C)]
 pub struct Alignment {
     pub max_rt: f32,
     pub slope: f32,
     pub intercept: f32,
+    pub used: u32,
 }
 
 // The lengths of the columns that hold the files' records.
@@ -31,13 +33,17 @@ pub struct FileRoom {
     pub max_rt: usize,
     pub slope: usize,
     pub intercept: usize,
+    pub used: usize,
 }
 
 // Whether each of the columns of these lengths has a cell for each file.
 pub fn columns_long(files: usize, room: FileRoom) -> bool
     ensures { λ r. ⌜ r ≡ eachLong files room ⌝ }
 {
-    (files <= room.max_rt) & (files <= room.slope) & (files <= room.intercept)
+    (files <= room.max_rt)
+        & (files <= room.slope)
+        & (files <= room.intercept)
+        & (files <= room.used)
 }
 
 // x, or d where x is not finite.
@@ -65,6 +71,7 @@ fn fit_line(max: u32, s: Sums, sx2: f64) -> Alignment
         max_rt: float::narrow(float::u32_to_f64(max)),
         slope: float::narrow(slope),
         intercept: float::narrow(finite_or(intercept, 0.0)),
+        used: s.len,
     }
 }
 
@@ -79,11 +86,12 @@ fn store_alignments(
     max_rt: &mut [f32],
     slope: &mut [f32],
     intercept: &mut [f32],
+    used: &mut [u32],
 )
     requires { ⌜ SizedAt (length (now max)) len dot «sum_x» «sum_y»
         × (length (now sx2) ≡ length (now max))
-        × EachOf (length (now max)) (fileColumnsAt «max_rt» slope intercept) ⌝ }
-    ensures { λ _. ⌜ recordsOf (fileColumnsOf «max_rt» slope intercept .exit)
+        × EachOf (length (now max)) (fileColumnsAt «max_rt» slope intercept used) ⌝ }
+    ensures { λ _. ⌜ recordsOf (fileColumnsOf «max_rt» slope intercept used .exit)
         ≡ recordsFrom (now (max .entry)) (sumsIn len dot «sum_x» «sum_y» .entry) (now (sx2 .entry)) ⌝ }
 {
     let mut f = 0usize;
@@ -101,6 +109,7 @@ fn store_alignments(
         max_rt[f] = a.max_rt;
         slope[f] = a.slope;
         intercept[f] = a.intercept;
+        used[f] = a.used;
         f += 1;
     }
 }
@@ -120,6 +129,7 @@ fn fit_columns(
     max_rt: &mut [f32],
     slope: &mut [f32],
     intercept: &mut [f32],
+    used: &mut [u32],
 )
     requires { ⌜ Fresh
         (length (now max))
@@ -132,14 +142,25 @@ fn fit_columns(
     requires { ⌜ (length (now cells) ≡ peptides * length (now max))
         × (peptides < 2 ^ 32)
         × (length (now max) < 2 ^ 32)
-        × EachOf (length (now max)) (fileColumnsAt «max_rt» slope intercept) ⌝ }
-    ensures { λ _. ⌜ recordsOf (fileColumnsOf «max_rt» slope intercept .exit)
+        × EachOf (length (now max)) (fileColumnsAt «max_rt» slope intercept used) ⌝ }
+    ensures { λ _. ⌜ recordsOf (fileColumnsOf «max_rt» slope intercept used .exit)
         ≡ linesFrom (now (max .entry)) peptides (now (cells .entry)) ⌝ }
 {
     sums::add_peptides(cells, max, peptides, len, dot, sum_x, sum_y);
     squares::x_means(len, sum_x, x_mean);
     squares::add_peptides(cells, max, peptides, x_mean, sx2);
-    store_alignments(max, len, dot, sum_x, sum_y, sx2, max_rt, slope, intercept);
+    store_alignments(
+        max,
+        len,
+        dot,
+        sum_x,
+        sum_y,
+        sx2,
+        max_rt,
+        slope,
+        intercept,
+        used,
+    );
 }
 
 // Writes the record of each file, from the files' longest times and, peptide by peptide, the smallest time in each file
@@ -151,12 +172,13 @@ pub fn fit_lines(
     max_rt: &mut [f32],
     slope: &mut [f32],
     intercept: &mut [f32],
+    used: &mut [u32],
 )
     requires { ⌜ (length (now cells) ≡ peptides * length (now max))
         × (peptides < 2 ^ 32)
         × (length (now max) ≤ maxFiles)
-        × EachOf (length (now max)) (fileColumnsAt «max_rt» slope intercept) ⌝ }
-    ensures { λ _. ⌜ recordsOf (fileColumnsOf «max_rt» slope intercept .exit)
+        × EachOf (length (now max)) (fileColumnsAt «max_rt» slope intercept used) ⌝ }
+    ensures { λ _. ⌜ recordsOf (fileColumnsOf «max_rt» slope intercept used .exit)
         ≡ linesFrom (now (max .entry)) peptides (now (cells .entry)) ⌝ }
 {
     let files = max.len();
@@ -179,5 +201,6 @@ pub fn fit_lines(
         max_rt,
         slope,
         intercept,
+        used,
     );
 }

@@ -54,6 +54,7 @@ fn run_accepted(
     max_rt: &mut [f32],
     slope: &mut [f32],
     intercept: &mut [f32],
+    used: &mut [u32],
     aligned: &mut [f32],
     retention_beta: &mut [f64],
     retention_predicted: &mut [f32],
@@ -64,13 +65,13 @@ fn run_accepted(
 ) -> RunAnswer
     requires { ⌜ status
         (inputAt file peptide label q rt charge mobility files letters offsets masses logs)
-        (slicesAt workspace (fileColumnsAt «max_rt» slope intercept) aligned
+        (slicesAt workspace (fileColumnsAt «max_rt» slope intercept used) aligned
         (outputsAt «retention_beta» «retention_predicted» «retention_error»)
         (outputsAt «mobility_beta» «mobility_predicted» «mobility_error»))
         ≡ accepted ⌝ }
     ensures { λ r. ⌜ Filled
         (inputOf file peptide label q rt charge mobility files letters offsets masses logs)
-        (slicesOf workspace (fileColumnsOf «max_rt» slope intercept) aligned
+        (slicesOf workspace (fileColumnsOf «max_rt» slope intercept used) aligned
         (outputsOf «retention_beta» «retention_predicted» «retention_error»)
         (outputsOf «mobility_beta» «mobility_predicted» «mobility_error»))
         r ⌝ }
@@ -89,6 +90,7 @@ fn run_accepted(
         max_rt,
         slope,
         intercept,
+        used,
         aligned,
     );
     let retention = retention_model::predict(
@@ -125,8 +127,8 @@ fn run_accepted(
     }
 }
 
-// Runs a batch. Of the workspace it needs the larger of peptides × files and 20,200 cells, of max_rt, slope and
-// intercept one for each file, of aligned, of the predictions and of the errors one for each row, and 69 and 100
+// Runs a batch. Of the workspace it needs the larger of peptides × files and 20,200 cells, of max_rt, slope, intercept
+// and used one for each file, of aligned, of the predictions and of the errors one for each row, and 69 and 100
 // coefficients. What is longer keeps its rest, a refused call leaves every slice as it was, and the outputs of a
 // model that does not fit keep what they held.
 pub fn run(
@@ -146,6 +148,7 @@ pub fn run(
     max_rt: &mut [f32],
     slope: &mut [f32],
     intercept: &mut [f32],
+    used: &mut [u32],
     aligned: &mut [f32],
     retention_beta: &mut [f64],
     retention_predicted: &mut [f32],
@@ -156,7 +159,7 @@ pub fn run(
 ) -> RunAnswer
     ensures { λ r. ⌜ RunCall
         (inputOf file peptide label q rt charge mobility files letters offsets masses logs)
-        (slicesOf workspace (fileColumnsOf «max_rt» slope intercept) aligned
+        (slicesOf workspace (fileColumnsOf «max_rt» slope intercept used) aligned
         (outputsOf «retention_beta» «retention_predicted» «retention_error»)
         (outputsOf «mobility_beta» «mobility_predicted» «mobility_error»))
         r ⌝ }
@@ -165,6 +168,7 @@ pub fn run(
         max_rt: max_rt.len(),
         slope: slope.len(),
         intercept: intercept.len(),
+        used: used.len(),
     };
     let retention = ModelRoom {
         beta: retention_beta.len(),
@@ -218,6 +222,7 @@ pub fn run(
         max_rt,
         slope,
         intercept,
+        used,
         aligned,
         retention_beta,
         retention_predicted,

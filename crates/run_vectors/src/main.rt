@@ -1,7 +1,7 @@
 // Replays stored runs of the Rust. Standard input is the number of batches and then, for each, the numbers of files,
 // peptides, letters and rows, the peptide table (offsets, letters, masses, logs) and the columns file, peptide,
-// label, q, rt, charge and mobility. Standard output is, for each, the status, the columns max_rt, slope, intercept
-// and aligned, what each fit answers, and the predictions and errors of each that solves.
+// label, q, rt, charge and mobility. Standard output is, for each, the status, the columns max_rt, slope, intercept,
+// used and aligned, what each fit answers, and the predictions and errors of each that solves.
 use regression::FitOutcome;
 use run::RunAnswer;
 use vectors::Token;
@@ -70,6 +70,7 @@ fn answer(
     let mut max_rt = [held; FILES];
     let mut slope = [held; FILES];
     let mut intercept = [held; FILES];
+    let mut used = [float::ceil_to_u32(held); FILES];
     let mut aligned = [held; ROWS];
     let mut retention_beta = [float::widen(held); embedding::RETENTION_FEATURES];
     let mut retention_predicted = [held; ROWS];
@@ -94,6 +95,7 @@ fn answer(
         &mut max_rt,
         &mut slope,
         &mut intercept,
+        &mut used,
         &mut aligned,
         &mut retention_beta,
         &mut retention_predicted,
@@ -112,6 +114,7 @@ fn answer(
             vectors::write_first_f32s(&max_rt, files);
             vectors::write_first_f32s(&slope, files);
             vectors::write_first_f32s(&intercept, files);
+            vectors::write_first_u32s(&used, files);
             vectors::write_first_f32s(&aligned, rows);
             let r = write_fit(retention, &retention_beta);
             let m = write_fit(mobility, &mobility_beta);

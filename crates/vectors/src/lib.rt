@@ -182,9 +182,24 @@ pub fn write_f32s(xs: &[f32]) {
     }
 }
 
+pub fn write_u32s(xs: &[u32]) {
+    let mut i = 0usize;
+    while i < xs.len() {
+        write_token(xs[i] as u64);
+        i += 1;
+    }
+}
+
 // Writes the first n cells; nothing where there are fewer.
 pub fn write_first_f32s(xs: &[f32], n: usize) {
     if n <= xs.len() {
         write_f32s(&xs[..n]);
+    }
+}
+
+// The same for whole numbers.
+pub fn write_first_u32s(xs: &[u32], n: usize) {
+    if n <= xs.len() {
+        write_u32s(&xs[..n]);
     }
 }

@@ -79,9 +79,9 @@ withFits n (some f) = record { status = n; retention = shownFit (f .retention); 
 
 -- a lookup's: the record
 abbrev pub withRecord : ℕ → Option Alignment → RecordAnswer
-withRecord n none = record { status = n; «max_rt» = zero32; slope = zero32; intercept = zero32 }
+withRecord n none = record { status = n; «max_rt» = zero32; slope = zero32; intercept = zero32; used = 0 }
 withRecord n (some a) =
-    record { status = n; «max_rt» = a .«max_rt»; slope = a .slope; intercept = a .intercept }
+    record { status = n; «max_rt» = a .«max_rt»; slope = a .slope; intercept = a .intercept; used = a .used }
 
 -- the aligned time
 abbrev pub withTime : ℕ → Option Float → TimeAnswer

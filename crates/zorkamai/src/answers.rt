@@ -105,12 +105,14 @@ pub(crate) fn of_found(f: Found) -> RecordAnswer
             max_rt: a.max_rt,
             slope: a.slope,
             intercept: a.intercept,
+            used: a.used,
         },
         Found::Refused(status) => RecordAnswer {
             status,
             max_rt: 0.0,
             slope: 0.0,
             intercept: 0.0,
+            used: 0,
         },
     }
 }

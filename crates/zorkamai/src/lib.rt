@@ -53,6 +53,7 @@ pub struct RecordAnswer {
     pub max_rt: f32,
     pub slope: f32,
     pub intercept: f32,
+    pub used: u32,
 }
 
 // A row's aligned time, if the status is 0.
@@ -99,11 +100,12 @@ pub extern "C" fn zorkamai_align(
     max_rt: &mut [f32],
     slope: &mut [f32],
     intercept: &mut [f32],
+    used: &mut [u32],
     aligned: &mut [f32],
 ) -> u8
     ensures { λ r. ⌜ AlignExported
         (alignInput file peptide label q rt files peptides)
-        (alignSlices workspace (fileColumnsOf «max_rt» slope intercept) aligned)
+        (alignSlices workspace (fileColumnsOf «max_rt» slope intercept used) aligned)
         r ⌝ }
 {
     answers::of_align(retention_alignment::global_alignment(
@@ -118,6 +120,7 @@ pub extern "C" fn zorkamai_align(
         max_rt,
         slope,
         intercept,
+        used,
         aligned,
     ))
 }
@@ -281,6 +284,7 @@ pub extern "C" fn zorkamai_run(
     max_rt: &mut [f32],
     slope: &mut [f32],
     intercept: &mut [f32],
+    used: &mut [u32],
     aligned: &mut [f32],
     retention_beta: &mut [f64],
     retention_predicted: &mut [f32],
@@ -291,7 +295,7 @@ pub extern "C" fn zorkamai_run(
 ) -> RunReport
     ensures { λ r. ⌜ RunExported
         (runInput file peptide label q rt charge mobility files letters offsets masses logs)
-        (runSlices workspace (fileColumnsOf «max_rt» slope intercept) aligned
+        (runSlices workspace (fileColumnsOf «max_rt» slope intercept used) aligned
         (outputsOf «retention_beta» «retention_predicted» «retention_error»)
         (outputsOf «mobility_beta» «mobility_predicted» «mobility_error»))
         r ⌝ }
@@ -313,6 +317,7 @@ pub extern "C" fn zorkamai_run(
         max_rt,
         slope,
         intercept,
+        used,
         aligned,
         retention_beta,
         retention_predicted,

@@ -1,8 +1,8 @@
--- `align_output::write_file` meets its contract: four lines, one written after the other.
+-- `align_output::write_file` meets its contract: five lines, one written after the other.
 use mathlib.Core.List.{[], flatten}
 use native.Mathlib.Omega.{arith}
 use Rattle.text.proofs.Writing.{wrote-nothing, wrote-then}
-use Rattle.align_output.specs.Output.{maxKey, slopeKey, fileKey, fileText}
+use Rattle.align_output.specs.Output.{maxKey, slopeKey, interceptKey, fileKey, fileText}
 use Rattle.align_output.proofs.Lengths.{decimal-line-length, float-length}
 use borrow.Author.Needs.{needs}
 use Rattle.align_output.proofs.write_file.Statement.{statement}
@@ -64,20 +64,48 @@ write-float-requires-3 c κs =
       float-length slopeKey (a .a .slope),
     )
 
+slice-aggregate-write-decimal-line-2 : tie.Need-slice-aggregate-write-decimal-line-2
+slice-aggregate-write-decimal-line-2 c = search needs
+
+write-decimal-line-requires-2 : tie.Need-write-decimal-line-requires-2
+write-decimal-line-requires-2 c κs =
+    let t = c .before .before .before .before in
+    let u = t .before .before .before .before .before in
+    let v = u .before .before .before .before .before in
+    let w = v .before .before .before .before .before in
+    let a = w .before .before .before .before .args in
+    omega (
+      arith,
+      w .write-decimal-line .ensures .next,
+      w .write-decimal-line .kept .0,
+      decimal-line-length fileKey (a .i) (omega arith),
+      v .write-float .ensures .next,
+      v .write-float .kept .0,
+      float-length maxKey (a .a .«max_rt»),
+      u .write-float2 .ensures .next,
+      u .write-float2 .kept .0,
+      float-length slopeKey (a .a .slope),
+      t .write-float3 .ensures .next,
+      t .write-float3 .kept .0,
+      float-length interceptKey (a .a .intercept),
+    )
+
 same-length : tie.Need-same-length
 same-length c = search needs
 
 returns : tie.Need-returns
 unfolding fileText flatten
 returns c =
-    let t = c .before .before in
+    let r = c .before .before in
+    let t = r .before .before .before .before .before in
     let u = t .before .before .before .before .before in
     let v = u .before .before .before .before .before in
     let w = v .before .before .before .before .before in
     wrote-then _ _ _ _ _ _ _ _ (w .write-decimal-line .ensures)
     (wrote-then _ _ _ _ _ _ _ _ (v .write-float .ensures)
     (wrote-then _ _ _ _ _ _ _ _ (u .write-float2 .ensures)
-    (wrote-then _ _ _ [] _ _ _ _ (t .write-float3 .ensures) (wrote-nothing _ _))))
+    (wrote-then _ _ _ _ _ _ _ _ (t .write-float3 .ensures)
+    (wrote-then _ _ _ [] _ _ _ _ (r .write-decimal-line2 .ensures) (wrote-nothing _ _)))))
 
 pub write-file-spec : {M : Type 1} → statement M
 write-file-spec =
@@ -91,5 +119,7 @@ write-file-spec =
     write-float-requires-2
     slice-aggregate-write-float-3
     write-float-requires-3
+    slice-aggregate-write-decimal-line-2
+    write-decimal-line-requires-2
     same-length
     returns)

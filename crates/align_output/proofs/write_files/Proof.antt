@@ -1,10 +1,12 @@
 -- `align_output::write_files` meets its contract. The loop's invariant: writing the files that are left gives what
--- writing all of them gives, and a file takes at most 64 bytes.
+-- writing all of them gives, and a file takes at most 80 bytes.
 use mathlib.Core.Path.{_≡_, ap, _∙_, subst}
 use mathlib.Core.List.{List, _++_}
 use Prim.Native.Nat.{ℕ, _+_, _-_, _*_, _≤_}
 use native.Mathlib.Omega.{arith}
-use lib.ListN.{length, drop}
+use lib.ListN.{length, drop, getD}
+use mir.Syntax.{w32}
+use mir.Val.{Fits}
 use denote.Ref.{now}
 use borrow.Author.Needs.{needs}
 use Rattle.rt_matrix.specs.Columns.{FileColumns, fileColumnsAt, recordsOf}
@@ -17,28 +19,32 @@ use Rattle.align_output.proofs.write_files.Statement.{statement}
 use Rattle.align_output.proofs.write_files.Tie as tie
 
 abbrev Inv-loop : tie.InvT-loop
-Inv-loop out₀ at max-rt slope intercept next₀ i₀ out next i =
-    let records = recordsOf (record { maxRt = max-rt; slope = slope; intercept = intercept }) in
+Inv-loop out₀ at max-rt slope intercept used next₀ i₀ out next i =
+    let records = recordsOf (record { maxRt = max-rt; slope = slope; intercept = intercept; used = used }) in
     (i ≤ length max-rt)
-    × (next ≤ at + 64 * i)
+    × (next ≤ at + 80 * i)
     × Writing out₀ at (filesText 0 records) out next (filesText i (drop i records))
 
 abbrev μ-loop : tie.MeasureT-loop
-μ-loop out₀ at max-rt slope intercept next₀ i₀ out next i = length max-rt - i
+μ-loop out₀ at max-rt slope intercept used next₀ i₀ out next i = length max-rt - i
 
 -- places in the code, each as a later one sees it
 abbrev start : tie.At-loop Inv-loop μ-loop → tie.Start Inv-loop μ-loop
-start l = l .before .before .before .before .before
+start l = l .before .before .before .before .before .before
 
 abbrev turn : tie.After-write-file-arg Inv-loop μ-loop → tie.In-loop Inv-loop μ-loop
-turn c = c .before .before .before .before
+turn c = c .before .before .before .before .before
 
 -- the records
 abbrev columns : tie.Start Inv-loop μ-loop → FileColumns
-columns s = let a = s .args in fileColumnsAt (a .max-rt) (a .slope) (a .intercept)
+columns s = let a = s .args in fileColumnsAt (a .max-rt) (a .slope) (a .intercept) (a .used)
 
 records-long : (s : tie.Start Inv-loop μ-loop) → length (recordsOf (columns s)) ≡ length (now (s .args .max-rt))
 records-long s = length-records (columns s) (length (now (s .args .max-rt))) (s .pre .2)
+
+-- a file's count is of 32 bits
+used-fits : (l : tie.At-loop Inv-loop μ-loop) (k : ℕ) → Fits w32 (getD (now (start l .args .used)) k 0)
+used-fits l k = l .before .shared-slice-known4 .given k
 
 -- what is still to be written, by another way to say it
 abbrev Still : tie.At-loop Inv-loop μ-loop → List ℕ → Type 0
@@ -49,23 +55,29 @@ Still l rest =
 loop-holds : tie.Need-loop-holds Inv-loop μ-loop
 loop-holds c = (search needs, search needs, writing-start _ _ _)
 
-mul-t9 : tie.Need-mul-t9 Inv-loop μ-loop
-mul-t9 c = search needs
+mul-t10 : tie.Need-mul-t10 Inv-loop μ-loop
+mul-t10 c = search needs
 
-shared-slice-read-t12 : tie.Need-shared-slice-read-t12 Inv-loop μ-loop
-shared-slice-read-t12 c = search needs
+shared-slice-read-t13 : tie.Need-shared-slice-read-t13 Inv-loop μ-loop
+shared-slice-read-t13 c = search needs
 
-mul-t13 : tie.Need-mul-t13 Inv-loop μ-loop
-mul-t13 c = search needs
+mul-t14 : tie.Need-mul-t14 Inv-loop μ-loop
+mul-t14 c = search needs
 
-shared-slice-read-t15 : tie.Need-shared-slice-read-t15 Inv-loop μ-loop
-shared-slice-read-t15 c = search needs
+shared-slice-read-t16 : tie.Need-shared-slice-read-t16 Inv-loop μ-loop
+shared-slice-read-t16 c = search needs
 
-mul-t16 : tie.Need-mul-t16 Inv-loop μ-loop
-mul-t16 c = search needs
+mul-t17 : tie.Need-mul-t17 Inv-loop μ-loop
+mul-t17 c = search needs
 
-shared-slice-read-t18 : tie.Need-shared-slice-read-t18 Inv-loop μ-loop
-shared-slice-read-t18 c = search needs
+shared-slice-read-t19 : tie.Need-shared-slice-read-t19 Inv-loop μ-loop
+shared-slice-read-t19 c = search needs
+
+mul-write-file : tie.Need-mul-write-file Inv-loop μ-loop
+mul-write-file c = search needs
+
+shared-slice-read-write-file : tie.Need-shared-slice-read-write-file Inv-loop μ-loop
+shared-slice-read-write-file c = search needs
 
 cast-write-file : tie.Need-cast-write-file Inv-loop μ-loop
 cast-write-file c = search needs
@@ -94,9 +106,10 @@ loop-again c =
     records-at (columns s) (length (now (s .args .max-rt))) (s .pre .2) i noRecord (t .loop-test .taken) in
     let next : filesText i (drop i records) ≡ fileText i a ++ filesText (i + 1) (drop (i + 1) records) =
     files-next records noRecord i (omega (arith, records-long s))
-    ∙ ap (λ (r : Alignment). fileText i r ++ filesText (i + 1) (drop (i + 1) records)) at-file in (
+    ∙ ap (λ (r : Alignment). fileText i r ++ filesText (i + 1) (drop (i + 1) records)) at-file in
+    let short = file-length i a (omega (arith, s .pre .1)) (used-fits l i .fits) in (
       omega arith,
-      omega (arith, l .loop .inv .1, w .write-file .ensures .next, file-length i a (omega (arith, s .pre .1))),
+      omega (arith, l .loop .inv .1, w .write-file .ensures .next, short),
       writing-more _ _ _ _ _ (fileText i a) _ _ _ (subst (Still l) next (l .loop .inv .2)) (w .write-file .ensures),
     )
 
@@ -117,12 +130,14 @@ write-files-spec =
     Inv-loop
     μ-loop
     loop-holds
-    mul-t9
-    shared-slice-read-t12
-    mul-t13
-    shared-slice-read-t15
-    mul-t16
-    shared-slice-read-t18
+    mul-t10
+    shared-slice-read-t13
+    mul-t14
+    shared-slice-read-t16
+    mul-t17
+    shared-slice-read-t19
+    mul-write-file
+    shared-slice-read-write-file
     cast-write-file
     write-file-requires
     add-i

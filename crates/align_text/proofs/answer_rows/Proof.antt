@@ -15,7 +15,7 @@ use Rattle.align_text.proofs.answer_rows.Statement.{statement}
 use Rattle.align_text.proofs.answer_rows.Tie as tie
 
 abbrev start : tie.After-global-alignment → tie.Start
-start g = g .before .before .before .before .before .before .before .before .before .before .before
+start g = g .before .before .before .before .before .before .before .before .before .before .before .before
 
 abbrev input : tie.After-global-alignment → Input
 input g =
@@ -27,22 +27,23 @@ ready g = start g .pre
 
 -- where the alignment's outputs are written of
 abbrev aligned : tie.After-write-accepted-arg → tie.After-global-alignment
-aligned c = c .before .before .before .before .before .before .before .before
+aligned c = c .before .before .before .before .before .before .before .before .before
 
 -- the outputs are as long as they were made
 record Kept (g : tie.After-global-alignment) : Type 0 where
   max-rt : length (g .global-alignment .last .1 .1 .1 .1 .1 .1 .1 .1 .0) ≡ 8
   slope : length (g .global-alignment .last .1 .1 .1 .1 .1 .1 .1 .1 .1 .0) ≡ 8
   intercept : length (g .global-alignment .last .1 .1 .1 .1 .1 .1 .1 .1 .1 .1 .0) ≡ 8
-  aligned : length (g .global-alignment .last .1 .1 .1 .1 .1 .1 .1 .1 .1 .1 .1 .0) ≡ 256
+  used : length (g .global-alignment .last .1 .1 .1 .1 .1 .1 .1 .1 .1 .1 .1 .0) ≡ 8
+  aligned : length (g .global-alignment .last .1 .1 .1 .1 .1 .1 .1 .1 .1 .1 .1 .1 .0) ≡ 256
 
 kept : (g : tie.After-global-alignment) → Kept g
 kept g =
     let k = g .global-alignment .kept .1 .1 .1 .1 .1 .1 .1 .1 in
-    record { max-rt = k .0; slope = k .1 .0; intercept = k .1 .1 .0; aligned = k .1 .1 .1 .0 }
+    record { max-rt = k .0; slope = k .1 .0; intercept = k .1 .1 .0; used = k .1 .1 .1 .0; aligned = k .1 .1 .1 .1 .0 }
 
 -- the parts that are written of
-files-in : (g : tie.After-global-alignment) (l : List Float) → length l ≡ 8
+files-in : {A : Type 0} (g : tie.After-global-alignment) (l : List A) → length l ≡ 8
     → length (take (start g .args .files) l) ≡ start g .args .files
 files-in g l e = length-take-le _ l (omega (arith, ready g .files))
 
@@ -64,6 +65,9 @@ slice-aggregate-global-alignment-4 c = search needs
 
 slice-aggregate-global-alignment-5 : tie.Need-slice-aggregate-global-alignment-5
 slice-aggregate-global-alignment-5 c = search needs
+
+slice-aggregate-global-alignment-6 : tie.Need-slice-aggregate-global-alignment-6
+slice-aggregate-global-alignment-6 c = search needs
 
 global-alignment-requires : tie.Need-global-alignment-requires
 global-alignment-requires c κs = search needs
@@ -94,28 +98,39 @@ slice-aggregate-write-accepted-3 c =
     let g = aligned (c .before .before .before) in
     sym (files-in g _ (kept g .intercept))
 
-array-share-prefix-aligned : tie.Need-array-share-prefix-aligned
-array-share-prefix-aligned c =
+array-share-prefix-used : tie.Need-array-share-prefix-used
+array-share-prefix-used c =
     let g = aligned (c .before .before .before) in
-    omega (arith, kept g .aligned, ready g .rows)
+    omega (arith, kept g .used, ready g .files)
 
 slice-aggregate-write-accepted-4 : tie.Need-slice-aggregate-write-accepted-4
 slice-aggregate-write-accepted-4 c =
     let g = aligned (c .before .before .before .before) in
+    sym (files-in g _ (kept g .used))
+
+array-share-prefix-aligned : tie.Need-array-share-prefix-aligned
+array-share-prefix-aligned c =
+    let g = aligned (c .before .before .before .before) in
+    omega (arith, kept g .aligned, ready g .rows)
+
+slice-aggregate-write-accepted-5 : tie.Need-slice-aggregate-write-accepted-5
+slice-aggregate-write-accepted-5 c =
+    let g = aligned (c .before .before .before .before .before) in
     sym (rows-in g _ (kept g .aligned))
 
 write-accepted-requires : tie.Need-write-accepted-requires
 write-accepted-requires c κs =
-    let g = aligned (c .before .before .before .before) in
+    let g = aligned (c .before .before .before .before .before) in
     let l = g .global-alignment .last .1 .1 .1 .1 .1 .1 .1 .1 in
     let f = files-in g (l .0) (kept g .max-rt) in
-    let r = rows-in g (l .1 .1 .1 .0) (kept g .aligned) in (
+    let r = rows-in g (l .1 .1 .1 .1 .0) (kept g .aligned) in (
       omega (arith, f, r, ready g .files, ready g .rows, ready g .room),
       omega (arith, f, ready g .files),
       record {
         maxRt = refl;
         slope = files-in g _ (kept g .slope) ∙ sym f;
         intercept = files-in g _ (kept g .intercept) ∙ sym f;
+        used = files-in g _ (kept g .used) ∙ sym f;
       },
     )
 
@@ -125,14 +140,14 @@ same-length c = search needs
 returns : tie.Need-returns
 returns c =
     let w = c .before .before in
-    let arg = w .before .before .before .before .before in
+    let arg = w .before .before .before .before .before .before in
     let g = aligned arg in
     let out = now (start g .args .out) in
     let h =
     accepted-is (input g) out (ready g) _ _ _ (g .global-alignment .ensures)
     (record {
       workspace = omega arith;
-      records = record { maxRt = omega arith; slope = omega arith; intercept = omega arith };
+      records = record { maxRt = omega arith; slope = omega arith; intercept = omega arith; used = omega arith };
       aligned = omega arith;
     })
     (arg .before .enum-told .given .1) in
@@ -148,13 +163,13 @@ returns-2 : tie.Need-returns-2
 returns-2 c =
     let w = c .before .before in
     let k = w .before .before .before in
-    let g = k .before .before .before .before .before .before .before in
+    let g = k .before .before .before .before .before .before .before .before in
     let out = now (start g .args .out) in
     let h =
     refused-is (input g) out (ready g) _ _ _ (g .global-alignment .ensures)
     (record {
       workspace = omega arith;
-      records = record { maxRt = omega arith; slope = omega arith; intercept = omega arith };
+      records = record { maxRt = omega arith; slope = omega arith; intercept = omega arith; used = omega arith };
       aligned = omega arith;
     })
     _ (k .answer .given .1) in
@@ -169,6 +184,7 @@ answer-rows-spec =
     slice-aggregate-global-alignment-3
     slice-aggregate-global-alignment-4
     slice-aggregate-global-alignment-5
+    slice-aggregate-global-alignment-6
     global-alignment-requires
     enum-known-answer
     enum-told
@@ -178,8 +194,10 @@ answer-rows-spec =
     slice-aggregate-write-accepted-2
     array-share-prefix-intercept
     slice-aggregate-write-accepted-3
-    array-share-prefix-aligned
+    array-share-prefix-used
     slice-aggregate-write-accepted-4
+    array-share-prefix-aligned
+    slice-aggregate-write-accepted-5
     write-accepted-requires
     same-length
     returns

@@ -1,6 +1,7 @@
 -- `records::canonical` meets its contract: a case for each thing that a lookup finds. To the logic each field stays
 -- what it is.
 use mathlib.Core.Path.{_≡_, sym, ap, _∙_}
+use Prim.Native.Nat.{ℕ}
 use lib.Ieee.{Float}
 use borrow.Author.Needs.{needs}
 use Rattle.rt_matrix.specs.declared.Alignment.{Alignment}
@@ -8,11 +9,11 @@ use Rattle.records.specs.declared.Found.the-variants.{At}
 use Rattle.records.proofs.canonical.Statement.{statement}
 use Rattle.records.proofs.canonical.Tie as tie
 
--- a record of three fields, and that equal fields make equal records
-abbrev made : Float → Float → Float → Alignment
-made m s i = record { «max_rt» = m; slope = s; intercept = i }
+-- a record of n points, and that equal fields make equal records
+abbrev made : ℕ → Float → Float → Float → Alignment
+made n m s i = record { «max_rt» = m; slope = s; intercept = i; used = n }
 
-same : {m n s t i j : Float} → m ≡ n → s ≡ t → i ≡ j → made m s i ≡ made n t j
+same : {n : ℕ} {l m s t i j : Float} → l ≡ m → s ≡ t → i ≡ j → made n l s i ≡ made n m t j
 same p q r = cc
 
 enum-known-found : tie.Need-enum-known-found

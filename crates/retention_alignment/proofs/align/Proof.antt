@@ -14,11 +14,13 @@ use Rattle.status.specs.Limits.{maxFiles}
 use Rattle.matrix.specs.Rows.{rowsOf}
 use Rattle.rt_matrix.specs.Line.{lines}
 use Rattle.rt_matrix.specs.Cells.{decode}
+use Rattle.rt_matrix.specs.Columns.{FileColumns, EachOf}
 use Rattle.rt_matrix.specs.declared.Alignment.{Alignment}
 use Rattle.matrix.proofs.Lists.{take-replicate, length-tabulate}
 use Rattle.retention_alignment.specs.Observation.{maxRt, maxRts}
 use Rattle.retention_alignment.specs.Alignments.{alignments, aligned}
 use Rattle.retention_alignment.specs.Call.{Input, inputAt, rows}
+use Rattle.retention_alignment.proofs.Rows.{by-records}
 use Rattle.retention_alignment.proofs.align.Statement.{statement}
 use Rattle.retention_alignment.proofs.align.Tie as tie
 
@@ -33,13 +35,13 @@ part n h = length-take-le n zeros (omega (arith, length-replicate {A = ℕ} maxF
 -- ---- the places
 
 abbrev start : tie.After-max → tie.Start
-start c = c .before .before .before .before .before .before .before .before .before .before
+start c = c .before .before .before .before .before .before .before .before .before .before .before
 
 abbrev longest : tie.After-mean-rt-by-file → tie.After-max-rt-by-file
 longest c = c .before .before .before
 
 abbrev smallest : tie.After-fit-lines → tie.After-mean-rt-by-file
-smallest c = c .before .before .before .before .before .before .before .before
+smallest c = c .before .before .before .before .before .before .before .before .before
 
 -- what is read
 abbrev input : tie.Start → Input
@@ -108,7 +110,7 @@ slice-aggregate-fit-lines c = sym (borrowed-long (c .before .before .before .bef
 
 fit-lines-requires : tie.Need-fit-lines-requires
 fit-lines-requires c κs =
-    let d = c .before .before .before .before .before .before .before in
+    let d = c .before .before .before .before .before .before .before .before in
     let s = start (longest d .before) in
     let n = borrowed-long (longest d) in
     let p = s .pre in
@@ -116,12 +118,17 @@ fit-lines-requires c κs =
       cells-long d ∙ ap (λ (k : ℕ). s .args .peptides * k) (sym n),
       omega (arith, p .peptides-max),
       omega (arith, n, p .files-max),
-      record { maxRt = r .maxRt ∙ sym n; slope = r .slope ∙ sym n; intercept = r .intercept ∙ sym n },
+      record {
+        maxRt = r .maxRt ∙ sym n;
+        slope = r .slope ∙ sym n;
+        intercept = r .intercept ∙ sym n;
+        used = r .used ∙ sym n;
+      },
     )
 
 align-rows-requires : tie.Need-align-rows-requires
 align-rows-requires c κs =
-    let g = c .before .before .before .before .before .before .before .before .before .before in
+    let g = c .before .before .before .before .before .before .before .before .before .before .before .before in
     let s = start (longest (smallest g) .before) in
     let p = s .pre in
     let k = g .fit-lines .kept in
@@ -130,11 +137,8 @@ align-rows-requires c κs =
       p .rt,
       p .aligned,
       ap (λ (n : ℕ). allBelow n (now (s .args .file))) m ∙ p .file-numbers,
-      record {
-        maxRt = refl;
-        slope = k .1 .1 .1 .1 .0 ∙ c .slope ∙ sym m;
-        intercept = k .1 .1 .1 .1 .1 .0 ∙ c .intercept ∙ sym m;
-      },
+      k .1 .1 .1 .1 .0 ∙ c .slope ∙ sym m,
+      k .1 .1 .1 .1 .1 .0 ∙ c .intercept ∙ sym m,
     )
 
 zeros-requires : tie.Need-zeros-requires
@@ -155,13 +159,16 @@ same-length-4 c = search needs
 same-length-5 : tie.Need-same-length-5
 same-length-5 c = search needs
 
+same-length-6 : tie.Need-same-length-6
+same-length-6 c = search needs
+
 returns : tie.Need-returns
 unfolding alignments maxRts
 returns c =
     let z = c .before .before in
     let w = c .before .before .before .before .before .before in
     let g =
-    c .before .before .before .before .before .before .before .before .before .before .before .before .before .before .before .before .before in
+    c .before .before .before .before .before .before .before .before .before .before .before .before .before .before .before .before .before .before .before in
     let d = smallest g in
     let r = longest d in
     let s = start (r .before) in
@@ -174,11 +181,26 @@ returns c =
     ∙ ap (λ (n : ℕ). lines ms (map (map decode) (rowsOf n (i .peptides) cells)))
     (length-tabulate (i .files) (λ f. maxRt f (rows i)))
     ∙ ap (lines ms) (d .mean-rt-by-file .ensures) in
+    let k = g .fit-lines .kept in
+    let records = s .pre .records in
+    let columns : FileColumns = record {
+      maxRt = g .fit-lines .last .1 .1 .1 .0;
+      slope = g .fit-lines .last .1 .1 .1 .1 .0;
+      intercept = g .fit-lines .last .1 .1 .1 .1 .1 .0;
+      used = g .fit-lines .last .1 .1 .1 .1 .1 .1 .0;
+    } in
+    let each : EachOf (i .files) columns = record {
+      maxRt = k .1 .1 .1 .0 ∙ records .maxRt;
+      slope = k .1 .1 .1 .1 .0 ∙ records .slope;
+      intercept = k .1 .1 .1 .1 .1 .0 ∙ records .intercept;
+      used = k .1 .1 .1 .1 .1 .1 .0 ∙ records .used;
+    } in
     record {
       workspace = z .zeros .ensures ∙ ap (λ (n : ℕ). replicate n zero64) (cells-long d);
       records = found;
       aligned =
           w .align-rows .ensures (now (s .args .peptide)) (s .pre .peptide)
+          ∙ by-records columns (i .files) each (i .file) (i .peptide) (i .rt) (s .pre .file-numbers)
           ∙ ap (λ (l : List Alignment). map (aligned l) (rows i)) found;
     }
 
@@ -201,4 +223,5 @@ align-spec =
     same-length-3
     same-length-4
     same-length-5
+    same-length-6
     returns)

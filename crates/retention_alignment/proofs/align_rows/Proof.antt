@@ -11,13 +11,10 @@ use denote.Ref.{now}
 use lib.ListN.{length, getD, length-set, length-map, List·getD-map}
 use lib.Ieee.{Float, nan}
 use Rattle.status.proofs.Laws.{below-at}
-use Rattle.rt_matrix.specs.Columns.{FileColumns, fileColumnsAt, recordsOf}
-use Rattle.rt_matrix.specs.declared.Alignment.{Alignment}
 use Rattle.matrix.proofs.Lists.{over, zipped-over}
 use Rattle.rt_matrix.proofs.Lists.{upTo, upTo-step, upTo-all}
-use Rattle.rt_matrix.proofs.RecordColumns.{records-at}
 use Rattle.retention_alignment.specs.Observation.{Obs, observations}
-use Rattle.retention_alignment.specs.Alignments.{aligned as alignedRow, alignedBy, noAlignment}
+use Rattle.retention_alignment.specs.Alignments.{alignedIn}
 use Rattle.retention_alignment.proofs.Rows.{rowAt, rows-at, length-rows}
 use Rattle.retention_alignment.proofs.align_rows.Statement.{statement}
 use Rattle.retention_alignment.proofs.align_rows.Tie as tie
@@ -26,19 +23,13 @@ use Rattle.retention_alignment.proofs.align_rows.Tie as tie
 abbrev noRow : Obs
 noRow = record { file = 0; peptide = 0; rt = nan }
 
-row-time : (recs : List Alignment) (fs ps : List ℕ) (ts : List Float) (i : ℕ)
-    → alignedBy (getD recs (getD fs i 0) noAlignment) (getD ts i nan) ≡ alignedRow recs (rowAt fs ps ts i)
-unfolding alignedRow
-row-time recs fs ps ts i = refl
-
 abbrev Inv-loop : tie.InvT-loop
 Inv-loop file rt max-rt slope intercept aligned₀ i₀ aligned i =
     (i ≤ length file)
     × (length aligned ≡ length file)
     × ((ps : List ℕ) → length ps ≡ length file → aligned
     ≡ upTo over i aligned₀
-    (map (alignedRow (recordsOf (record { maxRt = max-rt; slope = slope; intercept = intercept })))
-    (observations file ps rt)))
+    (map (alignedIn max-rt slope intercept) (observations file ps rt)))
 
 abbrev μ-loop : tie.MeasureT-loop
 μ-loop file rt max-rt slope intercept aligned₀ i₀ aligned i = length file - i
@@ -89,7 +80,7 @@ mul-aligned-time-2 c = scaled (c .before .before .before)
 shared-slice-read-aligned-time-2 : tie.Need-shared-slice-read-aligned-time-2 Inv-loop μ-loop
 shared-slice-read-aligned-time-2 c =
     let t = c .before .before .before .before in
-    omega (arith, file-below t, start (t .before) .pre .3 .slope)
+    omega (arith, file-below t, start (t .before) .pre .3)
 
 mul-aligned-time-3 : tie.Need-mul-aligned-time-3 Inv-loop μ-loop
 mul-aligned-time-3 c = scaled (c .before .before .before .before)
@@ -97,7 +88,7 @@ mul-aligned-time-3 c = scaled (c .before .before .before .before)
 shared-slice-read-aligned-time-3 : tie.Need-shared-slice-read-aligned-time-3 Inv-loop μ-loop
 shared-slice-read-aligned-time-3 c =
     let t = c .before .before .before .before .before in
-    omega (arith, file-below t, start (t .before) .pre .3 .intercept)
+    omega (arith, file-below t, start (t .before) .pre .4)
 
 mul-aligned-time-4 : tie.Need-mul-aligned-time-4 Inv-loop μ-loop
 mul-aligned-time-4 c = search needs
@@ -127,23 +118,18 @@ loop-again c =
     let s = start at in
     let a = s .args in
     let i = at .loop .i in
-    let columns = fileColumnsAt (a .max-rt) (a .slope) (a .intercept) in
-    let recs = recordsOf columns in
-    let at-file =
-    records-at columns (length (now (a .max-rt))) (s .pre .3) (getD (now (a .file)) i 0) noAlignment (file-below t) in (
+    let row-time = alignedIn (now (a .max-rt)) (now (a .slope)) (now (a .intercept)) in (
       omega arith,
       simp length-set (at .loop .inv .1),
       λ ps e.
           let os = observations (now (a .file)) ps (now (a .rt)) in
-          upTo-step over i (now (a .aligned)) (map (alignedRow recs) os) (at .loop .aligned) _
-          (c .aligned-time .result) nan (alignedRow recs noRow) (at .loop .inv .2 ps e) refl
+          upTo-step over i (now (a .aligned)) (map row-time os) (at .loop .aligned) _
+          (c .aligned-time .result) nan (row-time noRow) (at .loop .inv .2 ps e) refl
           (c .aligned-time .ensures
-          ∙ ap (λ (r : Alignment). alignedBy r (getD (now (a .rt)) i nan)) (sym at-file)
-          ∙ row-time recs (now (a .file)) ps (now (a .rt)) i
-          ∙ ap (alignedRow recs)
+          ∙ ap row-time
           (sym (rows-at (now (a .file)) ps (now (a .rt)) i noRow (t .loop-test .taken) (omega arith) (omega arith)))
-          ∙ sym (List·getD-map (alignedRow recs) os i noRow))
-          (omega (arith, length-map os (alignedRow recs), length-rows (now (a .file)) ps (now (a .rt)) e (s .pre .0))),
+          ∙ sym (List·getD-map row-time os i noRow))
+          (omega (arith, length-map os row-time, length-rows (now (a .file)) ps (now (a .rt)) e (s .pre .0))),
     )
 
 same-length : tie.Need-same-length Inv-loop μ-loop
@@ -154,13 +140,12 @@ returns c = λ ps e.
     let at = c .before in
     let s = start at in
     let a = s .args in
-    let columns = fileColumnsAt (a .max-rt) (a .slope) (a .intercept) in
-    let recs = recordsOf columns in
+    let row-time = alignedIn (now (a .max-rt)) (now (a .slope)) (now (a .intercept)) in
     let os = observations (now (a .file)) ps (now (a .rt)) in
     at .loop .inv .2 ps e
     ∙ upTo-all _ _ _ _ (omega arith)
     ∙ zipped-over _ _
-    (s .pre .1 ∙ sym (length-map os (alignedRow recs) ∙ length-rows (now (a .file)) ps (now (a .rt)) e (s .pre .0)))
+    (s .pre .1 ∙ sym (length-map os row-time ∙ length-rows (now (a .file)) ps (now (a .rt)) e (s .pre .0)))
 
 pub align-rows-spec : {M : Type 1} → statement M
 align-rows-spec =

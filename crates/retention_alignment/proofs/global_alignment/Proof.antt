@@ -13,13 +13,15 @@ use Rattle.retention_alignment.proofs.global_alignment.Statement.{state
 use Rattle.retention_alignment.proofs.global_alignment.Tie as tie
 
 abbrev start : tie.After-check → tie.Start
-start c = c .before .before .before .before .before .before .before .before .before .before
+start c = c .before .before .before .before .before .before .before .before .before .before .before
 
 abbrev input : tie.Start → Input
 input s = let a = s .args in inputAt (a .file) (a .peptide) (a .label) (a .q) (a .rt) (a .files) (a .peptides)
 
 abbrev slices : tie.Start → Slices
-slices s = let a = s .args in slicesAt (a .workspace) (fileColumnsAt (a .max-rt) (a .slope) (a .intercept)) (a .aligned)
+slices s =
+    let a = s .args in
+    slicesAt (a .workspace) (fileColumnsAt (a .max-rt) (a .slope) (a .intercept) (a .used)) (a .aligned)
 
 -- what the checks showed
 checks : (e : tie.Else1) → Passed (input (start (e .before))) (slices (start (e .before)))
@@ -49,8 +51,11 @@ lent4 c = lent3 (c .before)
 abbrev lent5 : tie.After-align-arg5 → tie.After-cell-count
 lent5 c = lent4 (c .before)
 
-abbrev worked : tie.After-slice-known10 → tie.After-align
-worked c = c .before .before .before .before .before .before .before .before .before .before
+abbrev lent6 : tie.After-align-arg6 → tie.After-cell-count
+lent6 c = lent5 (c .before)
+
+abbrev worked : tie.After-slice-known12 → tie.After-align
+worked c = c .before .before .before .before .before .before .before .before .before .before .before .before
 
 -- the workspace has the counted cells
 cells-fit : (d : tie.After-cell-count)
@@ -87,14 +92,20 @@ slice-aggregate-align-4 : tie.Need-slice-aggregate-align-4
 slice-aggregate-align-4 c = sym (length-take-le _ _ (checks (lent4 c .before) .records .intercept))
 
 slice-relend-prefix-align-5 : tie.Need-slice-relend-prefix-align-5
-slice-relend-prefix-align-5 c = checks (lent4 c .before) .aligned
+slice-relend-prefix-align-5 c = checks (lent4 c .before) .records .used
 
 slice-aggregate-align-5 : tie.Need-slice-aggregate-align-5
-slice-aggregate-align-5 c = sym (length-take-le _ _ (checks (lent5 c .before) .aligned))
+slice-aggregate-align-5 c = sym (length-take-le _ _ (checks (lent5 c .before) .records .used))
+
+slice-relend-prefix-align-6 : tie.Need-slice-relend-prefix-align-6
+slice-relend-prefix-align-6 c = checks (lent5 c .before) .aligned
+
+slice-aggregate-align-6 : tie.Need-slice-aggregate-align-6
+slice-aggregate-align-6 c = sym (length-take-le _ _ (checks (lent6 c .before) .aligned))
 
 align-requires : tie.Need-align-requires
 align-requires c κs =
-    let d = lent5 c in
+    let d = lent6 c in
     let p = checks (d .before) in
     record {
       peptide = p .peptide;
@@ -126,10 +137,13 @@ same-length-4 c = search needs
 same-length-5 : tie.Need-same-length-5
 same-length-5 c = search needs
 
+same-length-6 : tie.Need-same-length-6
+same-length-6 c = search needs
+
 returns-2 : tie.Need-returns-2
 returns-2 c =
     let w = worked c in
-    let d = lent5 (w .before) in
+    let d = lent6 (w .before) in
     let e = d .before in
     let s = start (e .before) in
     let l = w .align .last .1 .1 .1 .1 .1 .1 .1 in
@@ -139,16 +153,21 @@ returns-2 c =
     accepted-is (input s) (slices s)
     (record {
       workspace = l .0;
-      records = record { maxRt = l .1 .0; slope = l .1 .1 .0; intercept = l .1 .1 .1 .0 };
-      aligned = l .1 .1 .1 .1 .0;
+      records = record { maxRt = l .1 .0; slope = l .1 .1 .0; intercept = l .1 .1 .1 .0; used = l .1 .1 .1 .1 .0 };
+      aligned = l .1 .1 .1 .1 .1 .0;
     })
     (d .cell-count .result)
     (sym (e .before .check .ensures) ∙ e .if1 .left)
     (d .cell-count .ensures)
     (w .align .ensures)
     (k .0 ∙ length-take-le (d .cell-count .result) _ (cells-fit d))
-    (record { maxRt = k .1 .0 ∙ f .maxRt; slope = k .1 .1 .0 ∙ f .slope; intercept = k .1 .1 .1 .0 ∙ f .intercept })
-    (k .1 .1 .1 .1 .0 ∙ length-take-le _ _ (p .aligned))
+    (record {
+      maxRt = k .1 .0 ∙ f .maxRt;
+      slope = k .1 .1 .0 ∙ f .slope;
+      intercept = k .1 .1 .1 .0 ∙ f .intercept;
+      used = k .1 .1 .1 .1 .0 ∙ f .used;
+    })
+    (k .1 .1 .1 .1 .1 .0 ∙ length-take-le _ _ (p .aligned))
 
 pub global-alignment-spec : {M : Type 1} → statement M
 global-alignment-spec =
@@ -167,10 +186,13 @@ global-alignment-spec =
     slice-aggregate-align-4
     slice-relend-prefix-align-5
     slice-aggregate-align-5
+    slice-relend-prefix-align-6
+    slice-aggregate-align-6
     align-requires
     same-length
     same-length-2
     same-length-3
     same-length-4
     same-length-5
+    same-length-6
     returns-2)

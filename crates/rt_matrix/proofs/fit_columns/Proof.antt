@@ -23,7 +23,7 @@ use Rattle.rt_matrix.proofs.fit_columns.Tie as tie
 -- where the function begins, from each call
 abbrev start : tie.After-add-peptides-arg4 → tie.Start
 start c =
-    c .before .before .before .before .before .before .before .before .before .before .before .before .before .before .before
+    c .before .before .before .before .before .before .before .before .before .before .before .before .before .before .before .before
 
 abbrev first : tie.After-x-means-arg3 → tie.After-add-peptides
 first c = c .before .before .before .before .before .before .before .before .before .before .before
@@ -31,8 +31,8 @@ first c = c .before .before .before .before .before .before .before .before .bef
 abbrev second : tie.After-add-peptides-arg6 → tie.After-x-means
 second c = c .before .before .before .before
 
-abbrev third : tie.After-store-alignments-arg8 → tie.After-add-peptides2
-third c = c .before .before .before .before .before .before .before .before .before .before
+abbrev third : tie.After-store-alignments-arg9 → tie.After-add-peptides2
+third c = c .before .before .before .before .before .before .before .before .before .before .before
 
 sized : (s : tie.Start)
     → Sized (length (now (s .args .max))) (now (s .args .len)) (now (s .args .dot)) (now (s .args .sum-x))
@@ -112,9 +112,12 @@ same-length-8 c = search needs
 same-length-9 : tie.Need-same-length-9
 same-length-9 c = search needs
 
+same-length-10 : tie.Need-same-length-10
+same-length-10 c = search needs
+
 returns : tie.Need-returns
 returns c =
-    let t = c .before .before .before .before .before .before in
+    let t = c .before .before .before .before .before .before .before .before in
     let q = third (t .before) in
     let m = second (q .before) in
     let r = first (m .before) in
@@ -160,4 +163,5 @@ fit-columns-spec =
     same-length-7
     same-length-8
     same-length-9
+    same-length-10
     returns)

@@ -31,17 +31,18 @@ finite-or-requires-2 c κs = search needs
 narrow-requires-3 : tie.Need-narrow-requires-3
 narrow-requires-3 c κs = search needs
 
-abbrev rec : Float → Float → Float → Alignment
-rec m s i = record { «max_rt» = m; slope = s; intercept = i }
+-- a record of n points
+abbrev rec : ℕ → Float → Float → Float → Alignment
+rec n m s i = record { «max_rt» = m; slope = s; intercept = i; used = n }
 
--- `lineOf`, with the number of points as the float n
-abbrev fitted : ℕ → Float → Float → Float → Float → Float → Alignment
-fitted m n dot sumX sumY sx2 =
+-- `lineOf`, with the number of points as the float n too
+abbrev fitted : ℕ → ℕ → Float → Float → Float → Float → Float → Alignment
+fitted m len n dot sumX sumY sx2 =
     let xMean = div binary64 sumX n in
     let yMean = div binary64 sumY n in
     let slope = div binary64 (sub binary64 dot (mul binary64 (mul binary64 n xMean) yMean)) sx2 in
     let intercept = sub binary64 yMean (mul binary64 slope xMean) in
-    rec (narrowed (number m)) (narrowed (finiteOr one64 slope)) (narrowed (finiteOr zero64 intercept))
+    rec len (narrowed (number m)) (narrowed (finiteOr one64 slope)) (narrowed (finiteOr zero64 intercept))
 
 returns : tie.Need-returns
 unfolding lineOf ofBits
@@ -53,9 +54,10 @@ returns c =
     let m = max .narrow .ensures ∙ ap narrowed (max .before .u32-to-f642 .ensures) in
     let s = c .before .before .narrow2 .ensures ∙ ap narrowed (tested .finite-or .ensures) in
     let i = c .narrow3 .ensures ∙ ap narrowed (c .before .finite-or2 .ensures) in
-    ap (λ (x : Float). rec x (c .before .before .narrow2 .result) (c .narrow3 .result)) m
-    ∙ ap₂ (rec (narrowed (number (a .max)))) s i
-    ∙ ap (λ (x : Float). fitted (a .max) x (a .s .dot) (a .s .«sum_x») (a .s .«sum_y») (a .sx2))
+    let n = a .s .len in
+    ap (λ (x : Float). rec n x (c .before .before .narrow2 .result) (c .narrow3 .result)) m
+    ∙ ap₂ (rec n (narrowed (number (a .max)))) s i
+    ∙ ap (λ (x : Float). fitted (a .max) n x (a .s .dot) (a .s .«sum_x») (a .s .«sum_y») (a .sx2))
     (count .u32-to-f64 .ensures)
 
 pub fit-line-spec : {M : Type 1} → statement M

@@ -21,23 +21,23 @@ use Rattle.rt_matrix.proofs.store_alignments.Statement.{statement}
 use Rattle.rt_matrix.proofs.store_alignments.Tie as tie
 
 -- the columns of the records
-abbrev columns : (max-rt slope intercept : List Float) → FileColumns
-columns max-rt slope intercept = record { maxRt = max-rt; slope = slope; intercept = intercept }
+abbrev columns : (max-rt slope intercept : List Float) (used : List ℕ) → FileColumns
+columns max-rt slope intercept used = record { maxRt = max-rt; slope = slope; intercept = intercept; used = used }
 
 abbrev Inv-loop : tie.InvT-loop
-Inv-loop max len dot sum-x sum-y sx2 max-rt₀ slope₀ intercept₀ f₀ max-rt slope intercept f =
+Inv-loop max len dot sum-x sum-y sx2 max-rt₀ slope₀ intercept₀ used₀ f₀ max-rt slope intercept used f =
     (f ≤ length max)
-    × EachOf (length max) (columns max-rt slope intercept)
-    × (recordsOf (columns max-rt slope intercept)
-    ≡ upTo over f (recordsOf (columns max-rt₀ slope₀ intercept₀))
+    × EachOf (length max) (columns max-rt slope intercept used)
+    × (recordsOf (columns max-rt slope intercept used)
+    ≡ upTo over f (recordsOf (columns max-rt₀ slope₀ intercept₀ used₀))
     (recordsFrom max (sumsOf len dot sum-x sum-y) sx2))
 
 abbrev μ-loop : tie.MeasureT-loop
-μ-loop max len dot sum-x sum-y sx2 max-rt₀ slope₀ intercept₀ f₀ max-rt slope intercept f = length max - f
+μ-loop max len dot sum-x sum-y sx2 max-rt₀ slope₀ intercept₀ used₀ f₀ max-rt slope intercept used f = length max - f
 
 -- where the function begins
 abbrev start : tie.At-loop Inv-loop μ-loop → tie.Start Inv-loop μ-loop
-start at = at .before .before .before .before .before .before .before .before .before .before
+start at = at .before .before .before .before .before .before .before .before .before .before .before
 
 loop-holds : tie.Need-loop-holds Inv-loop μ-loop
 unfolding upTo
@@ -49,29 +49,29 @@ mul-fit-line c = search needs
 shared-slice-read-fit-line : tie.Need-shared-slice-read-fit-line Inv-loop μ-loop
 shared-slice-read-fit-line c = search needs
 
-mul-t16 : tie.Need-mul-t16 Inv-loop μ-loop
-mul-t16 c = search needs
+mul-t17 : tie.Need-mul-t17 Inv-loop μ-loop
+mul-t17 c = search needs
 
-shared-slice-read-t18 : tie.Need-shared-slice-read-t18 Inv-loop μ-loop
-shared-slice-read-t18 c = search needs
+shared-slice-read-t19 : tie.Need-shared-slice-read-t19 Inv-loop μ-loop
+shared-slice-read-t19 c = search needs
 
-mul-t19 : tie.Need-mul-t19 Inv-loop μ-loop
-mul-t19 c = search needs
+mul-t20 : tie.Need-mul-t20 Inv-loop μ-loop
+mul-t20 c = search needs
 
-shared-slice-read-t21 : tie.Need-shared-slice-read-t21 Inv-loop μ-loop
-shared-slice-read-t21 c = search needs
+shared-slice-read-t22 : tie.Need-shared-slice-read-t22 Inv-loop μ-loop
+shared-slice-read-t22 c = search needs
 
-mul-t22 : tie.Need-mul-t22 Inv-loop μ-loop
-mul-t22 c = search needs
+mul-t23 : tie.Need-mul-t23 Inv-loop μ-loop
+mul-t23 c = search needs
 
-shared-slice-read-t24 : tie.Need-shared-slice-read-t24 Inv-loop μ-loop
-shared-slice-read-t24 c = search needs
+shared-slice-read-t25 : tie.Need-shared-slice-read-t25 Inv-loop μ-loop
+shared-slice-read-t25 c = search needs
 
-mul-t25 : tie.Need-mul-t25 Inv-loop μ-loop
-mul-t25 c = search needs
+mul-t26 : tie.Need-mul-t26 Inv-loop μ-loop
+mul-t26 c = search needs
 
-shared-slice-read-t27 : tie.Need-shared-slice-read-t27 Inv-loop μ-loop
-shared-slice-read-t27 c = search needs
+shared-slice-read-t28 : tie.Need-shared-slice-read-t28 Inv-loop μ-loop
+shared-slice-read-t28 c = search needs
 
 mul-fit-line-2 : tie.Need-mul-fit-line-2 Inv-loop μ-loop
 mul-fit-line-2 c = search needs
@@ -100,6 +100,12 @@ mul-intercept c = search needs
 slice-write-intercept : tie.Need-slice-write-intercept Inv-loop μ-loop
 slice-write-intercept c = search needs
 
+mul-used : tie.Need-mul-used Inv-loop μ-loop
+mul-used c = search needs
+
+slice-write-used : tie.Need-slice-write-used Inv-loop μ-loop
+slice-write-used c = search needs
+
 add-f : tie.Need-add-f Inv-loop μ-loop
 add-f c = search needs
 
@@ -114,7 +120,7 @@ abbrev made : tie.Start Inv-loop μ-loop → List Alignment
 made s = recordsFrom (now (s .args .max)) (sums s) (now (s .args .sx2))
 
 abbrev held : tie.Start Inv-loop μ-loop → FileColumns
-held s = let a = s .args in fileColumnsAt (a .max-rt) (a .slope) (a .intercept)
+held s = let a = s .args in fileColumnsAt (a .max-rt) (a .slope) (a .intercept) (a .used)
 
 sums-long : (s : tie.Start Inv-loop μ-loop) → length (sums s) ≡ length (now (s .args .max))
 sums-long s =
@@ -131,7 +137,7 @@ loop-again c =
     let a = s .args in
     let f = at .loop .f in
     let inv = at .loop .inv in
-    let now-held = columns (at .loop .max-rt) (at .loop .slope) (at .loop .intercept) in
+    let now-held = columns (at .loop .max-rt) (at .loop .slope) (at .loop .intercept) (at .loop .used) in
     let h : f < length (now (a .max)) = omega arith in
     let at-file =
     sums-at (now (a .len)) (now (a .dot)) (now (a .sum-x)) (now (a .sum-y)) (length (now (a .max))) (s .pre .0) f h in
@@ -146,6 +152,7 @@ loop-again c =
         maxRt = simp length-set (inv .1 .maxRt);
         slope = simp length-set (inv .1 .slope);
         intercept = simp length-set (inv .1 .intercept);
+        used = simp length-set (inv .1 .used);
       },
       upTo-step over f (recordsOf (held s)) (made s) (recordsOf now-held) _ (c .fit-line .result) noRecord noRecord
           (inv .2) (records-set now-held f (c .fit-line .result)) is (omega (arith, made-long s)),
@@ -159,6 +166,9 @@ same-length-2 c = search needs
 
 same-length-3 : tie.Need-same-length-3 Inv-loop μ-loop
 same-length-3 c = search needs
+
+same-length-4 : tie.Need-same-length-4 Inv-loop μ-loop
+same-length-4 c = search needs
 
 returns : tie.Need-returns Inv-loop μ-loop
 returns c =
@@ -176,14 +186,14 @@ store-alignments-spec =
     loop-holds
     mul-fit-line
     shared-slice-read-fit-line
-    mul-t16
-    shared-slice-read-t18
-    mul-t19
-    shared-slice-read-t21
-    mul-t22
-    shared-slice-read-t24
-    mul-t25
-    shared-slice-read-t27
+    mul-t17
+    shared-slice-read-t19
+    mul-t20
+    shared-slice-read-t22
+    mul-t23
+    shared-slice-read-t25
+    mul-t26
+    shared-slice-read-t28
     mul-fit-line-2
     shared-slice-read-fit-line-2
     fit-line-requires
@@ -193,10 +203,13 @@ store-alignments-spec =
     slice-write-slope
     mul-intercept
     slice-write-intercept
+    mul-used
+    slice-write-used
     add-f
     loop-less
     loop-again
     same-length
     same-length-2
     same-length-3
+    same-length-4
     returns)

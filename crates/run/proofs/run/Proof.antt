@@ -20,21 +20,21 @@ input s =
 abbrev held : tie.Start → Slices
 held s =
     let a = s .args in
-    slicesAt (a .workspace) (fileColumnsAt (a .max-rt) (a .slope) (a .intercept)) (a .aligned)
+    slicesAt (a .workspace) (fileColumnsAt (a .max-rt) (a .slope) (a .intercept) (a .used)) (a .aligned)
     (outputsAt (a .retention-beta) (a .retention-predicted) (a .retention-error))
     (outputsAt (a .mobility-beta) (a .mobility-predicted) (a .mobility-error))
 
 -- places in the code, each as a later one sees it
 abbrev start : tie.After-check → tie.Start
 start c =
-    c .before .before .before .before .before .before .before .before .before .before .before .before .before .before .before .before .before .before .before .before .before .before
+    c .before .before .before .before .before .before .before .before .before .before .before .before .before .before .before .before .before .before .before .before .before .before .before
 
-abbrev passed : tie.After-run-accepted-arg11 → tie.Else1
-passed c = c .before .before .before .before .before .before .before .before .before .before .before
+abbrev passed : tie.After-run-accepted-arg12 → tie.Else1
+passed c = c .before .before .before .before .before .before .before .before .before .before .before .before
 
-abbrev worked : tie.After-slice-known22 → tie.After-run-accepted
+abbrev worked : tie.After-slice-known24 → tie.After-run-accepted
 worked c =
-    c .before .before .before .before .before .before .before .before .before .before .before .before .before .before .before .before .before .before .before .before .before .before
+    c .before .before .before .before .before .before .before .before .before .before .before .before .before .before .before .before .before .before .before .before .before .before .before .before
 
 -- the status of a call that passed
 accepts : (e : tie.Else1) → status (input (start (e .before))) (held (start (e .before))) ≡ accepted
@@ -84,18 +84,21 @@ same-length-10 c = search needs
 same-length-11 : tie.Need-same-length-11
 same-length-11 c = search needs
 
+same-length-12 : tie.Need-same-length-12
+same-length-12 c = search needs
+
 returns-2 : tie.Need-returns-2
 returns-2 c =
     let w = worked c in
     let e = passed (w .before) in
     let s = start (e .before) in
     let l = w .run-accepted .last .1 .1 .1 .1 .1 .1 .1 .1 .1 .1 .1 .1 in
-    let r = l .1 .1 .1 .1 .1 in
+    let r = l .1 .1 .1 .1 .1 .1 in
     let m = r .1 .1 .1 in
     let t : Slices = record {
       workspace = l .0;
-      records = record { maxRt = l .1 .0; slope = l .1 .1 .0; intercept = l .1 .1 .1 .0 };
-      aligned = l .1 .1 .1 .1 .0;
+      records = record { maxRt = l .1 .0; slope = l .1 .1 .0; intercept = l .1 .1 .1 .0; used = l .1 .1 .1 .1 .0 };
+      aligned = l .1 .1 .1 .1 .1 .0;
       retention = record { coefficients = r .0; predicted = r .1 .0; error = r .1 .1 .0 };
       mobility = record { coefficients = m .0; predicted = m .1 .0; error = m .1 .1 .0 };
     } in
@@ -119,4 +122,5 @@ run-spec =
     same-length-9
     same-length-10
     same-length-11
+    same-length-12
     returns-2)

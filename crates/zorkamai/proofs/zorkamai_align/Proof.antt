@@ -26,10 +26,13 @@ same-length-4 c = search needs
 same-length-5 : tie.Need-same-length-5
 same-length-5 c = search needs
 
+same-length-6 : tie.Need-same-length-6
+same-length-6 c = search needs
+
 returns : tie.Need-returns
 returns c =
     let entry =
-    c .before .before .before .before .before .before .before .before .before .before .before .global-alignment .ensures in
+    c .before .before .before .before .before .before .before .before .before .before .before .before .before .global-alignment .ensures in
     exported ofAlign _ (c .of-align .ensures) (entry .answer) entry
 
 pub zorkamai-align-spec : {M : Type 1} → statement M
@@ -43,4 +46,5 @@ zorkamai-align-spec =
     same-length-3
     same-length-4
     same-length-5
+    same-length-6
     returns)

@@ -44,10 +44,13 @@ same-length-10 c = search needs
 same-length-11 : tie.Need-same-length-11
 same-length-11 c = search needs
 
+same-length-12 : tie.Need-same-length-12
+same-length-12 c = search needs
+
 returns : tie.Need-returns
 returns c =
     let entry =
-    c .before .before .before .before .before .before .before .before .before .before .before .before .before .before .before .before .before .before .before .before .before .before .before .run .ensures in
+    c .before .before .before .before .before .before .before .before .before .before .before .before .before .before .before .before .before .before .before .before .before .before .before .before .before .run .ensures in
     exported ofRun _ (c .of-run .ensures) (entry .answer) entry
 
 pub zorkamai-run-spec : {M : Type 1} → statement M
@@ -67,4 +70,5 @@ zorkamai-run-spec =
     same-length-9
     same-length-10
     same-length-11
+    same-length-12
     returns)

@@ -23,6 +23,9 @@ slice-aggregate-global-alignment-4 c = search needs
 slice-aggregate-global-alignment-5 : tie.Need-slice-aggregate-global-alignment-5
 slice-aggregate-global-alignment-5 c = search needs
 
+slice-aggregate-global-alignment-6 : tie.Need-slice-aggregate-global-alignment-6
+slice-aggregate-global-alignment-6 c = search needs
+
 global-alignment-requires : tie.Need-global-alignment-requires
 global-alignment-requires c κs = search needs
 
@@ -35,8 +38,8 @@ write-token-requires c κs = search needs
 write-workspace-requires : tie.Need-write-workspace-requires
 write-workspace-requires c κs = search needs
 
-changed-lines-requires : tie.Need-changed-lines-requires
-changed-lines-requires c κs = search needs
+changed-records-requires : tie.Need-changed-records-requires
+changed-records-requires c κs = search needs
 
 changed32-requires : tie.Need-changed32-requires
 changed32-requires c κs = search needs
@@ -57,11 +60,12 @@ align-spec =
     slice-aggregate-global-alignment-3
     slice-aggregate-global-alignment-4
     slice-aggregate-global-alignment-5
+    slice-aggregate-global-alignment-6
     global-alignment-requires
     number-requires
     write-token-requires
     write-workspace-requires
-    changed-lines-requires
+    changed-records-requires
     changed32-requires
     write-token-requires-2
     returns)

@@ -59,6 +59,9 @@ slice-aggregate-run-16 c = search needs
 slice-aggregate-run-17 : tie.Need-slice-aggregate-run-17
 slice-aggregate-run-17 c = search needs
 
+slice-aggregate-run-18 : tie.Need-slice-aggregate-run-18
+slice-aggregate-run-18 c = search needs
+
 run-requires : tie.Need-run-requires
 run-requires c κs = search needs
 
@@ -68,8 +71,8 @@ write-numbers-requires c κs = search needs
 write-workspace-requires : tie.Need-write-workspace-requires
 write-workspace-requires c κs = search needs
 
-changed-lines-requires : tie.Need-changed-lines-requires
-changed-lines-requires c κs = search needs
+changed-records-requires : tie.Need-changed-records-requires
+changed-records-requires c κs = search needs
 
 changed32-requires : tie.Need-changed32-requires
 changed32-requires c κs = search needs
@@ -108,10 +111,11 @@ run-spec =
     slice-aggregate-run-15
     slice-aggregate-run-16
     slice-aggregate-run-17
+    slice-aggregate-run-18
     run-requires
     write-numbers-requires
     write-workspace-requires
-    changed-lines-requires
+    changed-records-requires
     changed32-requires
     changed-model-requires
     changed-model-requires-2

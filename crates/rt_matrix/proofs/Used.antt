@@ -1,0 +1,70 @@
+-- How many peptides carry a file's line: no more than there are.
+use mathlib.Core.Path.{_≡_, refl, ap, _∙_}
+use mathlib.Core.Bool.{Bool, true, false, cond}
+use mathlib.Core.List.{List, [], _∷_, map, zipWith}
+use mathlib.Core.Option.{Option, none, some}
+use Prim.Native.Nat.{ℕ, suc, _≤_, _<_}
+use native.Mathlib.Decide.{decLt}
+use native.Mathlib.Omega.{arith}
+use lib.ListN.{length, getD, length-append, length-map, List·getD-eq-default}
+use lib.Ieee.{Float, binary64}
+use Rattle.float.specs.Value.{isNormal}
+use Rattle.matrix.specs.Lists.{tabulate}
+use Rattle.matrix.proofs.Lists.{length-tabulate, getD-tabulate}
+use Rattle.rt_matrix.specs.Line.{share, mean, keptRows, pointOf, points, lineOf, line, lines}
+use Rattle.rt_matrix.specs.declared.Alignment.{Alignment}
+use Rattle.rt_matrix.proofs.RecordColumns.{noRecord}
+
+kept-few : (rows : List (List (Option Float))) → length (keptRows rows) ≤ length rows
+unfolding keptRows
+kept-few [] = omega arith
+kept-few (row ∷ rows) = go (isNormal binary64 (mean row)) (kept-few rows)
+  where
+    go : (b : Bool) → length (keptRows rows) ≤ length rows
+        → length (cond b (row ∷ keptRows rows) (keptRows rows)) ≤ suc (length rows)
+    go true h = omega arith
+    go false h = omega arith
+
+point-few : (x : Option Float) (y : Float) → length (pointOf x y) ≤ 1
+unfolding pointOf
+point-few none y = omega arith
+point-few (some x) y = omega arith
+
+points-few : (f : ℕ) (rows : List (List (Option Float))) → length (points f rows) ≤ length rows
+unfolding points
+points-few f [] = omega arith
+points-few f (row ∷ rows) =
+    omega (
+      arith,
+      length-append (pointOf (getD row f none) (mean row)) (points f rows),
+      point-few (getD row f none) (mean row),
+      points-few f rows,
+    )
+
+-- of each file, from the smallest times of each peptide
+pub used-few : (ms : List ℕ) (rows : List (List (Option Float))) (f : ℕ)
+    → getD (lines ms rows) f noRecord .used ≤ length rows
+unfolding lines line lineOf
+used-few ms rows f = go (decLt f (length ms))
+  where
+    shares : List (List (Option Float))
+    shares = map (zipWith share ms) rows
+
+    at : ℕ → Alignment
+    at g = line (getD ms g 0) (points g (keptRows shares))
+
+    go : Dec (f < length ms) → getD (tabulate (length ms) at) f noRecord .used ≤ length rows
+    go (yes h) =
+        omega (
+          arith,
+          ap (λ (a : Alignment). a .used) (getD-tabulate (length ms) at f noRecord h),
+          points-few f (keptRows shares),
+          kept-few shares,
+          length-map rows (zipWith share ms),
+        )
+    go (no h) =
+        let past : length (tabulate (length ms) at) ≤ f = omega (arith, length-tabulate (length ms) at) in
+        omega (
+          arith,
+          ap (λ (a : Alignment). a .used) (List·getD-eq-default (tabulate (length ms) at) noRecord {n = f} past),
+        )
