@@ -36,34 +36,41 @@ static void alignment(void) {
     const float rt[] = {5.0f, 10.0f, 2.0f, 10.0f, 20.0f, 4.0f};
     double workspace[6];
     float max_rt[2], slope[2], intercept[2], aligned[6];
+    uint32_t used[2];
 
     uint8_t status = zorkamai_align(
         file, 6, peptide, 6, label, 6, q, 6, rt, 6, 2, 3, workspace, 6,
-        max_rt, 2, slope, 2, intercept, 2, aligned, 6);
+        max_rt, 2, slope, 2, intercept, 2, used, 2, aligned, 6);
     expect(status == 0, "the alignment is accepted");
     expect(max_rt[0] == 10.0f && max_rt[1] == 20.0f, "the longest times are 10 and 20");
+    expect(used[0] == 3 && used[1] == 2, "three peptides carry the line of file 0, two that of file 1");
     expect(workspace[5] == 0.0, "the work room ends as 0");
+    for (size_t i = 0; i < LEN(used); i++) {
+        printf("file %zu: longest %g, y = %gx + %g by %u peptides\n", i, max_rt[i], slope[i], intercept[i], used[i]);
+    }
     for (size_t i = 0; i < LEN(aligned); i++) {
         printf("file %u peptide %u: %g -> %g\n", file[i], peptide[i], rt[i], aligned[i]);
     }
 
     const zorkamai_alignment records[] = {
-        {max_rt[0], slope[0], intercept[0]}, {max_rt[1], slope[1], intercept[1]}};
+        {max_rt[0], slope[0], intercept[0], used[0]}, {max_rt[1], slope[1], intercept[1], used[1]}};
     zorkamai_record_answer record = zorkamai_record_of(records, LEN(records), 1);
     expect(record.status == 0 && record.max_rt == 20.0f, "file 1 has a record");
     expect(bits(record.slope) == bits(slope[1]), "with its slope");
     expect(bits(record.intercept) == bits(intercept[1]), "and its intercept");
+    expect(record.used == 2, "and its number of peptides");
     expect(zorkamai_record_of(records, LEN(records), 2).status == 4, "file 2 has none");
     zorkamai_time_answer time = zorkamai_aligned_time(records, LEN(records), 1, 4.0f);
     expect(time.status == 0 && bits(time.aligned) == bits(aligned[5]), "a row's time by the list");
     expect(zorkamai_aligned_time(records, LEN(records), 7, 4.0f).status == 4, "no time without one");
 
     aligned[0] = -1.0f;
+    used[0] = 77;
     status = zorkamai_align(
         file, 6, peptide, 6, label, 6, q, 6, rt, 6, 1, 3, workspace, 6,
-        max_rt, 2, slope, 2, intercept, 2, aligned, 6);
+        max_rt, 2, slope, 2, intercept, 2, used, 2, aligned, 6);
     expect(status == 4, "file 1 of 1 is refused");
-    expect(aligned[0] == -1.0f, "and changes nothing");
+    expect(aligned[0] == -1.0f && used[0] == 77, "and changes nothing");
 }
 
 static void models(void) {
@@ -110,18 +117,20 @@ static void whole_run(void) {
     static double workspace[20200];
     double retention_beta[69], mobility_beta[100];
     float max_rt[1], slope[1], intercept[1], aligned[1], time[1], time_error[1], ims[1], ims_error[1];
+    uint32_t used[1];
 
     zorkamai_run_report r = zorkamai_run(
         file, 1, peptide, 1, label, 1, q, 1, rt, 1, charge, 1, mobility, 1, 1, letters, 4, offsets, 2,
-        masses, 1, logs, 1, workspace, 20200, max_rt, 1, slope, 1, intercept, 1, aligned, 1,
+        masses, 1, logs, 1, workspace, 20200, max_rt, 1, slope, 1, intercept, 1, used, 1, aligned, 1,
         retention_beta, 69, time, 1, time_error, 1, mobility_beta, 100, ims, 1, ims_error, 1);
     expect(r.status == 0 && r.retention.status == 0 && r.mobility.status == 0, "both models fit");
     expect(r.retention.n == 1 && r.mobility.n == 1, "to the one row");
     expect(max_rt[0] == 10.0f && aligned[0] == 1.0f, "whose time is the longest");
+    expect(used[0] == 1, "and whose peptide carries the file's line");
     expect(time_error[0] < 0.01f && ims_error[0] < 0.01f, "and predict it");
     r = zorkamai_run(
         file, 1, peptide, 1, label, 1, q, 1, rt, 1, charge, 1, mobility, 1, 1, letters, 4, offsets, 2,
-        masses, 1, logs, 1, workspace, 20199, max_rt, 1, slope, 1, intercept, 1, aligned, 1,
+        masses, 1, logs, 1, workspace, 20199, max_rt, 1, slope, 1, intercept, 1, used, 1, aligned, 1,
         retention_beta, 69, time, 1, time_error, 1, mobility_beta, 100, ims, 1, ims_error, 1);
     expect(r.status == 3 && r.retention.status == 3, "20,199 cells of work room are too few");
 }

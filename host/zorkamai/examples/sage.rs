@@ -103,7 +103,8 @@ fn main() -> Result<(), zorkamai::Error> {
     let mobility = predict_mobility(&db, &mut features)?;
 
     for (file, a) in alignments.iter().enumerate() {
-        println!("file {file}: longest {}, y = {}x + {}", a.max_rt, a.slope, a.intercept);
+        let (m, b) = (a.slope, a.intercept);
+        println!("file {file}: longest {}, y = {m}x + {b} by {} peptides", a.max_rt, a.used);
     }
     for f in &features {
         println!(

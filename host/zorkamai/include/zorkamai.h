@@ -31,11 +31,14 @@
 extern "C" {
 #endif
 
-/* A file's record: its longest time, and the line that aligns its times. */
+/* A file's record: its longest time, the line that aligns its times, and the number of kept peptides of the
+ * file, whose times carry the line. Without any, used is 0, slope 1 and intercept 0. A peptide that training
+ * rows have is kept if the mean of its times, as shares of the files' longest, is a normal number. */
 typedef struct {
     float max_rt;
     float slope;
     float intercept;
+    uint32_t used;
 } zorkamai_alignment;
 
 /* The answer of the solver or of a fit: its number and, if that is 0, the ridge, and of a fit r2 and the
@@ -60,6 +63,7 @@ typedef struct {
     float max_rt;
     float slope;
     float intercept;
+    uint32_t used;
 } zorkamai_record_answer;
 
 /* A row's aligned time, if the number is 0. */
@@ -82,15 +86,15 @@ zorkamai_answer zorkamai_solve(
     double *workspace, size_t workspace_len, double *solution, size_t solution_len);
 
 /* Aligns the rows' times: a row has a file, a peptide, a label, a q and a time. Needs peptides * files
- * cells of workspace, a cell for each file of max_rt, slope and intercept, and one for each row of
- * aligned. */
+ * cells of workspace, a cell for each file of max_rt, slope, intercept and used, the fields of the files'
+ * records, and one for each row of aligned. */
 uint8_t zorkamai_align(
     const uint32_t *file, size_t file_len, const uint32_t *peptide, size_t peptide_len,
     const int32_t *label, size_t label_len, const float *q, size_t q_len,
     const float *rt, size_t rt_len, size_t files, size_t peptides,
     double *workspace, size_t workspace_len, float *max_rt, size_t max_rt_len,
     float *slope, size_t slope_len, float *intercept, size_t intercept_len,
-    float *aligned, size_t aligned_len);
+    uint32_t *used, size_t used_len, float *aligned, size_t aligned_len);
 
 /* Fits the retention model to the aligned times of the training rows: those with label 1 and a q of at most
  * 0.01. Peptide i has the letters from offsets[i] to offsets[i + 1], a mass, and the log ln(1 + mass). Needs
@@ -132,8 +136,8 @@ zorkamai_answer zorkamai_mobility_predict(
     float *predicted, size_t predicted_len, float *error, size_t error_len);
 
 /* The alignment, both fits on it, and the predictions and errors of each model that fits. Needs of workspace the
- * larger of peptides * files and 20,200 cells, a cell for each file of max_rt, slope and intercept, 69 and 100 of
- * the coefficients, and one for each row of the others. */
+ * larger of peptides * files and 20,200 cells, a cell for each file of max_rt, slope, intercept and used, 69 and
+ * 100 of the coefficients, and one for each row of the others. */
 zorkamai_run_report zorkamai_run(
     const uint32_t *file, size_t file_len, const uint32_t *peptide, size_t peptide_len,
     const int32_t *label, size_t label_len, const float *q, size_t q_len,
@@ -143,7 +147,8 @@ zorkamai_run_report zorkamai_run(
     const float *masses, size_t masses_len, const double *logs, size_t logs_len,
     double *workspace, size_t workspace_len, float *max_rt, size_t max_rt_len,
     float *slope, size_t slope_len, float *intercept, size_t intercept_len,
-    float *aligned, size_t aligned_len, double *retention_beta, size_t retention_beta_len,
+    uint32_t *used, size_t used_len, float *aligned, size_t aligned_len,
+    double *retention_beta, size_t retention_beta_len,
     float *retention_predicted, size_t retention_predicted_len, float *retention_error, size_t retention_error_len,
     double *mobility_beta, size_t mobility_beta_len, float *mobility_predicted, size_t mobility_predicted_len,
     float *mobility_error, size_t mobility_error_len);

@@ -47,7 +47,8 @@ pub trait Database {
     fn monoisotopic(&self, peptide_idx: u32) -> f32;
 }
 
-/// Sage's `global_alignment`: writes each row's aligned time, and gives a record for each file.
+/// Sage's `global_alignment`: writes each row's aligned time, and gives a record for each file, with the number of
+/// peptides that carry its line, which sage's has not.
 pub fn global_alignment<F: Feature>(
     features: &mut [F],
     n_files: usize,

@@ -14,20 +14,22 @@ pub struct Aligned {
 }
 
 /// Aligns the rows' times over the files: a line for each file that takes its times, as shares of the file's
-/// longest time, to the mean shares of the peptides that training rows name.
+/// longest time, to the mean shares of the peptides that training rows name. [`Alignment::used`] says how many
+/// peptides carry a file's line.
 ///
 /// ```
-/// use zorkamai::{align, Row, Rows};
+/// use zorkamai::{align, Alignment, Row, Rows};
 /// let row = Row { label: 1, rt: 10.0, ..Default::default() };
-/// let one = align(&Rows::from_iter([row]), 1, 1)?;
-/// assert_eq!((one.records[0].slope, one.records[0].intercept), (0.0, 1.0));
-/// assert_eq!(one.aligned, [1.0]);
+/// let two = align(&Rows::from_iter([row]), 2, 1)?;
+/// assert_eq!(two.records[0], Alignment { max_rt: 10.0, slope: 0.0, intercept: 1.0, used: 1 });
+/// assert_eq!(two.records[1], Alignment { max_rt: 0.0, slope: 1.0, intercept: 0.0, used: 0 });
+/// assert_eq!(two.aligned, [1.0]);
 /// # Ok::<(), zorkamai::Error>(())
 /// ```
 pub fn align(rows: &Rows, files: usize, peptides: usize) -> Result<Aligned, Error> {
     let (cells, records) = room(files, peptides);
     let mut workspace = vec![0.0; cells];
-    let [mut max_rt, mut slope, mut intercept] = [(); 3].map(|_| vec![0.0; records]);
+    let mut columns = FileColumns::new(records);
     let mut aligned = vec![0.0; rows.len()];
     let number = raw::align(
         &rows.file,
@@ -38,13 +40,14 @@ pub fn align(rows: &Rows, files: usize, peptides: usize) -> Result<Aligned, Erro
         files,
         peptides,
         &mut workspace,
-        &mut max_rt,
-        &mut slope,
-        &mut intercept,
+        &mut columns.max_rt,
+        &mut columns.slope,
+        &mut columns.intercept,
+        &mut columns.used,
         &mut aligned,
     );
     match number {
-        0 => Ok(Aligned { records: records_of(&max_rt, &slope, &intercept), aligned }),
+        0 => Ok(Aligned { records: columns.records(), aligned }),
         _ => Err(handed_in(rows, files, peptides).error(number)),
     }
 }
@@ -60,11 +63,31 @@ pub(crate) fn room(files: usize, peptides: usize) -> (usize, usize) {
     }
 }
 
-/// The records that three columns hold.
-pub(crate) fn records_of(max_rt: &[f32], slope: &[f32], intercept: &[f32]) -> Vec<Alignment> {
-    let record =
-        |i: usize| Alignment { max_rt: max_rt[i], slope: slope[i], intercept: intercept[i] };
-    (0..max_rt.len()).map(record).collect()
+/// The columns that the files' records are written to.
+pub(crate) struct FileColumns {
+    pub max_rt: Vec<f32>,
+    pub slope: Vec<f32>,
+    pub intercept: Vec<f32>,
+    pub used: Vec<u32>,
+}
+
+impl FileColumns {
+    /// For so many records.
+    pub fn new(records: usize) -> FileColumns {
+        let [max_rt, slope, intercept] = [(); 3].map(|_| vec![0.0; records]);
+        FileColumns { max_rt, slope, intercept, used: vec![0; records] }
+    }
+
+    /// The records that the columns hold.
+    pub fn records(&self) -> Vec<Alignment> {
+        let record = |i: usize| Alignment {
+            max_rt: self.max_rt[i],
+            slope: self.slope[i],
+            intercept: self.intercept[i],
+            used: self.used[i],
+        };
+        (0..self.used.len()).map(record).collect()
+    }
 }
 
 /// What a call of an alignment handed in.
@@ -89,15 +112,20 @@ pub(crate) fn handed_in(rows: &Rows, files: usize, peptides: usize) -> Call<'_> 
 ///
 /// ```
 /// use zorkamai::{record_of, Alignment};
-/// let records = [Alignment { max_rt: 10.0, slope: 1.0, intercept: 0.0 }];
-/// assert_eq!(record_of(&records, 0)?.max_rt, 10.0);
+/// let records = [Alignment { max_rt: 10.0, slope: 0.5, intercept: 0.25, used: 7 }];
+/// assert_eq!(record_of(&records, 0)?, records[0]);
 /// assert_eq!(record_of(&records, 1).unwrap_err().number(), 4);
 /// # Ok::<(), zorkamai::Error>(())
 /// ```
 pub fn record_of(records: &[Alignment], file: u32) -> Result<Alignment, Error> {
     let found = raw::record_of(records, file);
     match found.status {
-        0 => Ok(Alignment { max_rt: found.max_rt, slope: found.slope, intercept: found.intercept }),
+        0 => Ok(Alignment {
+            max_rt: found.max_rt,
+            slope: found.slope,
+            intercept: found.intercept,
+            used: found.used,
+        }),
         _ => Err(no_record(records, file)),
     }
 }
@@ -106,7 +134,7 @@ pub fn record_of(records: &[Alignment], file: u32) -> Result<Alignment, Error> {
 ///
 /// ```
 /// use zorkamai::{aligned_time, Alignment};
-/// let records = [Alignment { max_rt: 10.0, slope: 0.5, intercept: 0.25 }];
+/// let records = [Alignment { max_rt: 10.0, slope: 0.5, intercept: 0.25, used: 7 }];
 /// assert_eq!(aligned_time(&records, 0, 5.0)?, 0.5);
 /// # Ok::<(), zorkamai::Error>(())
 /// ```

@@ -5,13 +5,17 @@
 //! written may be longer than needed, and keeps the rest. A refused call (1 to 7) changes no slice; after
 //! any other the needed cells of `workspace` are +0.0.
 
-/// A file's record: its longest time, and the line that aligns its times.
+/// A file's record: its longest time, the line that aligns its times, and how many peptides carry the line.
 #[repr(C)]
 #[derive(Copy, Clone, Debug, Default, PartialEq)]
 pub struct Alignment {
     pub max_rt: f32,
     pub slope: f32,
     pub intercept: f32,
+    /// The kept peptides of the file, whose times carry its line; 0 where there are none, and then the slope is 1 and
+    /// the intercept 0. A peptide that training rows have is kept if the mean of its times, as shares of the files'
+    /// longest, is a normal number.
+    pub used: u32,
 }
 
 /// The answer of the solver or of a fit: its number and, if that is 0, the ridge, and of a fit r2 and the
@@ -42,6 +46,7 @@ pub struct RecordAnswer {
     pub max_rt: f32,
     pub slope: f32,
     pub intercept: f32,
+    pub used: u32,
 }
 
 /// A row's aligned time, if the number is 0.
@@ -105,10 +110,10 @@ functions! {
     ) -> Answer = zorkamai_solve;
 
     /// Aligns the rows' times. Needs peptides × files cells of `workspace`, one cell for each file of `max_rt`,
-    /// `slope` and `intercept`, and one for each row of `aligned`.
+    /// `slope`, `intercept` and `used`, the fields of the files' records, and one for each row of `aligned`.
     pub fn align(
         file: &[u32], peptide: &[u32], label: &[i32], q: &[f32], rt: &[f32], files: usize, peptides: usize,
-        workspace: &mut [f64], max_rt: &mut [f32], slope: &mut [f32], intercept: &mut [f32],
+        workspace: &mut [f64], max_rt: &mut [f32], slope: &mut [f32], intercept: &mut [f32], used: &mut [u32],
         aligned: &mut [f32],
     ) -> u8 = zorkamai_align;
 
@@ -145,12 +150,12 @@ functions! {
     ) -> Answer = zorkamai_mobility_predict;
 
     /// The alignment, both fits on it, and the predictions and errors of each model that fits. Needs of `workspace` the
-    /// larger of peptides × files and 20,200 cells, one cell for each file of `max_rt`, `slope` and `intercept`, 69 and
-    /// 100 of the coefficients, and one for each row of the others.
+    /// larger of peptides × files and 20,200 cells, one cell for each file of `max_rt`, `slope`, `intercept` and
+    /// `used`, 69 and 100 of the coefficients, and one for each row of the others.
     pub fn run(
         file: &[u32], peptide: &[u32], label: &[i32], q: &[f32], rt: &[f32], charge: &[u8], mobility: &[f32],
         files: usize, letters: &[u8], offsets: &[u32], masses: &[f32], logs: &[f64],
-        workspace: &mut [f64], max_rt: &mut [f32], slope: &mut [f32], intercept: &mut [f32],
+        workspace: &mut [f64], max_rt: &mut [f32], slope: &mut [f32], intercept: &mut [f32], used: &mut [u32],
         aligned: &mut [f32],
         retention_beta: &mut [f64], retention_predicted: &mut [f32], retention_error: &mut [f32],
         mobility_beta: &mut [f64], mobility_predicted: &mut [f32], mobility_error: &mut [f32],

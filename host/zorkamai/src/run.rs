@@ -1,6 +1,6 @@
 //! A whole run over a batch.
 
-use crate::alignment::{self, records_of, room, Aligned};
+use crate::alignment::{self, room, Aligned, FileColumns};
 use crate::error::Call;
 use crate::models::{Fit, Predicted};
 use crate::{mobility, raw, retention, Error, PeptideTable, Rows};
@@ -24,7 +24,7 @@ pub struct Run {
 /// table.push(b"ACDK", 435.18);
 /// let row = Row { label: 1, rt: 10.0, charge: 2, mobility: 0.9, ..Default::default() };
 /// let run = run(&Rows::from_iter([row]), 1, &table)?;
-/// assert_eq!(run.aligned.aligned, [1.0]);
+/// assert_eq!((run.aligned.records[0].used, run.aligned.aligned[0]), (1, 1.0));
 /// assert_eq!(run.retention?.fit.n, 1);
 /// assert!(run.mobility?.error[0] < 0.01);
 /// # Ok::<(), zorkamai::Error>(())
@@ -33,7 +33,7 @@ pub fn run(rows: &Rows, files: usize, table: &PeptideTable) -> Result<Run, Error
     let (cells, records) = room(files, table.len());
     let n = rows.len();
     let mut workspace = vec![0.0; cells.max(mobility::WORKSPACE)];
-    let [mut max_rt, mut slope, mut intercept] = [(); 3].map(|_| vec![0.0; records]);
+    let mut columns = FileColumns::new(records);
     let mut aligned = vec![0.0; n];
     let outputs = |columns: usize| (vec![0.0; columns], vec![0.0; n], vec![0.0; n]);
     let (mut time_beta, mut time, mut time_error) = outputs(retention::COLUMNS);
@@ -52,9 +52,10 @@ pub fn run(rows: &Rows, files: usize, table: &PeptideTable) -> Result<Run, Error
         &table.masses,
         &table.logs,
         &mut workspace,
-        &mut max_rt,
-        &mut slope,
-        &mut intercept,
+        &mut columns.max_rt,
+        &mut columns.slope,
+        &mut columns.intercept,
+        &mut columns.used,
         &mut aligned,
         &mut time_beta,
         &mut time,
@@ -72,7 +73,7 @@ pub fn run(rows: &Rows, files: usize, table: &PeptideTable) -> Result<Run, Error
         Ok(Predicted { fit, predicted, error })
     };
     Ok(Run {
-        aligned: Aligned { records: records_of(&max_rt, &slope, &intercept), aligned },
+        aligned: Aligned { records: columns.records(), aligned },
         retention: model(report.retention, time_beta, time, time_error),
         mobility: model(report.mobility, ims_beta, ims, ims_error),
     })

@@ -49,6 +49,30 @@ fn three() {
     let mut none = [0.0; 0];
     let answer = zorkamai::raw::solve(&[1.0], &[1.0], 1, 1, &mut [0.0; 1], &mut none);
     assert_eq!(answer.status, 3);
+    let mut used = [7; 3];
+    assert_eq!((align_two_files(&mut used[..1]), used), (3, [7; 3]));
+    assert_eq!((align_two_files(&mut used), used), (0, [0, 0, 7]));
+}
+
+/// An alignment of two files without rows, with these cells for the counts.
+fn align_two_files(used: &mut [u32]) -> u8 {
+    let [mut max_rt, mut slope, mut intercept] = [[0.0; 2]; 3];
+    let (no_cells, no_times) = (&mut [], &mut []);
+    zorkamai::raw::align(
+        &[],
+        &[],
+        &[],
+        &[],
+        &[],
+        2,
+        0,
+        no_cells,
+        &mut max_rt,
+        &mut slope,
+        &mut intercept,
+        used,
+        no_times,
+    )
 }
 
 #[test]
