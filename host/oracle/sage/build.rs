@@ -1,8 +1,9 @@
 //! Copies sage's files out of `$SAGE_SRC` for the compiler, byte for byte, and checks the copies.
 //!
 //! `$SAGE_SRC` is the folder that holds crates/sage/src; a relative path starts at the repository's
-//! root, and the default is ../shared/docs/src beside it. A probe of ours is appended to the two
-//! models' copies, to read their private coefficients; nothing else is added and nothing is changed.
+//! root, and the default is ../shared/docs/src beside it. A probe of ours is appended to the copies of
+//! the alignment and of both models, to read what they keep to themselves; nothing else is added and
+//! nothing is changed.
 
 use std::path::{Path, PathBuf};
 use std::{env, fs};
@@ -14,7 +15,7 @@ const FILES: [(&str, &str); 8] = [
     ("ml/gauss.rs", ""),
     ("ml/matrix.rs", ""),
     ("ml/regression.rs", ""),
-    ("ml/retention_alignment.rs", ""),
+    ("ml/retention_alignment.rs", include_str!("probes/retention_alignment.rs")),
     ("ml/retention_model.rs", include_str!("probes/retention_model.rs")),
     ("ml/mobility_model.rs", include_str!("probes/mobility_model.rs")),
 ];

@@ -1,8 +1,9 @@
 //! Batches of rows through `global_alignment`.
 
-use crate::text::{Output, Tokens};
+use crate::text::{bits32, Output, Tokens};
 use sage::database::PeptideIx;
-use sage::ml::retention_alignment::{global_alignment, Alignment};
+use sage::ml::matrix::Matrix;
+use sage::ml::retention_alignment::{global_alignment, probe_times, Alignment};
 use sage::scoring::Feature;
 
 /// A row's seven fields.
@@ -42,13 +43,23 @@ impl Row {
     }
 }
 
-/// A record for each file, and the rows with their aligned times.
+/// A record and a number of kept peptides for each file, and the rows with their aligned times.
 pub struct Aligned {
     pub records: Vec<Alignment>,
+    pub used: Vec<u32>,
     pub features: Vec<Feature>,
 }
 
 impl Aligned {
+    /// Each file's longest time, slope, intercept and number of kept peptides, as patterns.
+    pub fn patterns(&self) -> Vec<[u64; 4]> {
+        let record = |(a, &used): (&Alignment, &u32)| {
+            let [max_rt, slope, intercept] = [a.max_rt, a.slope, a.intercept].map(bits32);
+            [max_rt, slope, intercept, used as u64]
+        };
+        self.records.iter().zip(&self.used).map(record).collect()
+    }
+
     /// The rows' aligned times.
     pub fn times(&self) -> Vec<f32> {
         self.features.iter().map(|f| f.aligned_rt).collect()
@@ -58,8 +69,18 @@ impl Aligned {
 /// Aligns the rows of `files` files.
 pub fn align(files: usize, rows: &[Row]) -> Aligned {
     let mut features: Vec<Feature> = rows.iter().map(Row::feature).collect();
+    let used = used(&probe_times(&features, files));
     let records = global_alignment(&mut features, files);
-    Aligned { records, features }
+    Aligned { records, used, features }
+}
+
+/// The kept peptides of each file: the finite cells of its column of the times.
+fn used(times: &Matrix) -> Vec<u32> {
+    let mut used = vec![0; times.cols];
+    for (place, time) in times.data.iter().enumerate() {
+        used[place % times.cols] += time.is_finite() as u32;
+    }
+    used
 }
 
 /// Which columns a row has: an alignment's rows have no charge and no mobility.
@@ -114,11 +135,12 @@ pub fn write_rows(out: &mut Output, rows: &[Row], columns: Columns) {
     }
 }
 
-/// Writes the longest times, the slopes, the intercepts and the aligned times.
+/// Writes the longest times, the slopes, the intercepts, the numbers of kept peptides and the aligned times.
 pub fn write_aligned(out: &mut Output, aligned: &Aligned) {
-    aligned.records.iter().for_each(|a| out.f32(a.max_rt));
-    aligned.records.iter().for_each(|a| out.f32(a.slope));
-    aligned.records.iter().for_each(|a| out.f32(a.intercept));
+    let records = aligned.patterns();
+    for column in 0..4 {
+        records.iter().for_each(|record| out.bits(record[column]));
+    }
     aligned.features.iter().for_each(|f| out.f32(f.aligned_rt));
 }
 

@@ -3,7 +3,6 @@
 use crate::alignment::{align, Row};
 use crate::text::bits32;
 use sage::database::PeptideIx;
-use std::fmt::Write;
 
 /// The bytes that a text may have.
 pub const BYTES: usize = 65_536;
@@ -112,16 +111,16 @@ fn accepted(input: &Input) -> String {
     };
     let rows: Vec<Row> = input.rows.iter().map(row).collect();
     let aligned = align(input.files as usize, &rows);
+    let line = |key: &str, x: f32| format!("{key}={:08X}\n", bits32(x));
     let mut out = "status=0\n".to_string();
-    let mut line = |key: &str, x: f32| {
-        writeln!(out, "{key}={:08X}", bits32(x)).expect("a String takes all text")
-    };
-    for (i, a) in aligned.records.iter().enumerate() {
-        line(&format!("file={i}\nmax"), a.max_rt);
-        line("slope", a.slope);
-        line("intercept", a.intercept);
+    for (i, (a, used)) in aligned.records.iter().zip(&aligned.used).enumerate() {
+        out += &format!("file={i}\n");
+        out += &line("max", a.max_rt);
+        out += &line("slope", a.slope);
+        out += &line("intercept", a.intercept);
+        out += &format!("used={used}\n");
     }
-    aligned.features.iter().for_each(|f| line("aligned", f.aligned_rt));
+    aligned.features.iter().for_each(|f| out += &line("aligned", f.aligned_rt));
     out
 }
 

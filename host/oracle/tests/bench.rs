@@ -4,6 +4,7 @@ use oracle::alignment::{align, Row};
 use oracle::leaf;
 use oracle::program::program;
 use oracle::solve::System;
+use oracle::text::bits32;
 use sage::database::{IndexedDatabase, PeptideIx};
 use sage::ml::mobility_model::MobilityModel;
 use sage::peptide::Peptide;
@@ -13,10 +14,9 @@ fn row(file: usize, peptide: u32, rt: f32) -> Row {
     Row { label: 1, rt, charge: 2, ims: 1.0, ..Row::new(file, PeptideIx(peptide)) }
 }
 
-/// The one file's longest time, slope and intercept, as patterns.
-fn record(rows: &[Row]) -> [u32; 3] {
-    let a = align(1, rows).records[0];
-    [a.max_rt, a.slope, a.intercept].map(f32::to_bits)
+/// The one file's longest time, slope, intercept and number of kept peptides, as patterns.
+fn record(rows: &[Row]) -> [u64; 4] {
+    align(1, rows).patterns()[0]
 }
 
 fn peptide(letters: &str) -> Peptide {
@@ -52,22 +52,35 @@ const K: usize = 8;
 
 #[test]
 fn longest_times() {
-    assert_eq!(record(&[row(0, 0, 9.2)])[0], 10f32.to_bits());
+    assert_eq!(record(&[row(0, 0, 9.2)])[0], bits32(10.0));
     assert_eq!(record(&[row(0, 0, -3.0)])[0], 0);
-    assert_eq!(record(&[row(0, 0, 5E9)])[0], 4294967296f32.to_bits());
+    assert_eq!(record(&[row(0, 0, 5E9)])[0], bits32(4294967296.0));
     let ceil = |x: f32| leaf::float(2, [x.to_bits() as u64, 0, 0]);
     assert_eq!([ceil(9.2), ceil(-3.0), ceil(5E9)], [Some(10), Some(0), Some(4_294_967_295)]);
 }
 
 #[test]
 fn no_rows() {
-    assert_eq!(record(&[]), [0, 0x3F80_0000, 0]);
+    assert_eq!(record(&[]), [0, 0x3F80_0000, 0, 0]);
+}
+
+/// The time's share of a longest time of 0 is infinite, so the peptide is dropped.
+#[test]
+fn a_dropped_peptide() {
+    assert_eq!(record(&[row(0, 0, -3.0)]), [0, 0x3F80_0000, 0, 0]);
+}
+
+#[test]
+fn peptides_are_counted_and_not_rows() {
+    assert_eq!(record(&[row(0, 0, 5.0), row(0, 0, 7.0)])[3], 1);
+    let outside = Row { label: -1, ..row(0, 2, 9.0) };
+    assert_eq!(record(&[row(0, 0, 5.0), row(0, 1, 7.0), outside])[3], 2);
 }
 
 #[test]
 fn the_programs_row() {
     let rows = [row(0, 0, 10.0)];
-    assert_eq!(record(&rows), [0x4120_0000, 0, 0x3F80_0000]);
+    assert_eq!(record(&rows), [0x4120_0000, 0, 0x3F80_0000, 1]);
     assert_eq!(align(1, &rows).features[0].aligned_rt.to_bits(), 0x3F80_0000);
 }
 
@@ -76,10 +89,9 @@ fn the_programs_row() {
 fn the_programs_text() {
     let head = "files=1\npeptides=1\n";
     let rows = "file=0\npeptide=0\nlabel=1\nq=00000000\nrt=41200000\n";
-    let answer =
-        "status=0\nfile=0\nmax=41200000\nslope=00000000\nintercept=3F800000\naligned=3F800000\n";
+    let line = "status=0\nfile=0\nmax=41200000\nslope=00000000\nintercept=3F800000\n";
     let text = head.to_string() + rows;
-    assert_eq!(program(text.as_bytes()), answer);
+    assert_eq!(program(text.as_bytes()), line.to_string() + "used=1\naligned=3F800000\n");
     let status = |text: &str, n: u8| assert_eq!(program(text.as_bytes()), format!("status={n}\n"));
     status(&text.replace("files=1", "files=+1"), 10);
     status(&(text.replace("files=1", "files=9") + "file=0\n"), 10);
@@ -90,11 +102,23 @@ fn the_programs_text() {
     status(&text.replace("peptide=0", "peptide=1"), 5);
 }
 
+/// A text of no rows, and one with twelve peptides at the longest time.
+#[test]
+fn the_programs_counts() {
+    let none = "status=0\nfile=0\nmax=00000000\nslope=3F800000\nintercept=00000000\nused=0\n";
+    assert_eq!(program(b"files=1\npeptides=1\n"), none);
+    let row = |i| format!("file=0\npeptide={i}\nlabel=1\nq=00000000\nrt=41200000\n");
+    let text: String = (0..12).map(row).collect();
+    let answer = program(format!("files=1\npeptides=12\n{text}").as_bytes());
+    assert_eq!(answer.lines().nth(5), Some("used=12"));
+}
+
 #[test]
 fn two_files_two_peptides() {
     let rows = [row(0, 0, 5.0), row(0, 1, 10.0), row(1, 0, 10.0), row(1, 1, 20.0)];
-    let slopes: Vec<u32> = align(2, &rows).records.iter().map(|a| a.slope.to_bits()).collect();
-    assert_eq!(slopes, [0x3F7F_FFFF, 0x3F7F_FFFF]);
+    let records = align(2, &rows).patterns();
+    assert_eq!([records[0][1], records[1][1]], [0x3F7F_FFFF; 2]);
+    assert_eq!([records[0][3], records[1][3]], [2; 2]);
 }
 
 #[test]

@@ -1,4 +1,5 @@
-//! The alignment's sums go by rising peptide and rising file: a plain rendering of document 01 agrees.
+//! The alignment's sums go by rising peptide and rising file: a plain rendering of document 01 agrees, on the
+//! records and on the numbers of kept peptides.
 
 use oracle::alignment::{align, Row};
 use oracle::rng::Rng;
@@ -34,8 +35,8 @@ fn kept(rows: &[Row], longest: &[f64; FILES]) -> Vec<(Shares, f64)> {
     all.filter(|(_, mean)| mean.is_normal()).collect()
 }
 
-/// A file's slope and intercept.
-fn line(file: usize, kept: &[(Shares, f64)]) -> (f64, f64) {
+/// A file's slope, intercept and number of points.
+fn line(file: usize, kept: &[(Shares, f64)]) -> (f64, f64, usize) {
     let points: Vec<(f64, f64)> = kept.iter().filter_map(|(s, y)| Some((s[file]?, *y))).collect();
     let sum = |from: f64, term: &dyn Fn(f64, f64) -> f64| {
         points.iter().fold(from, |sum, &(x, y)| sum + term(x, y))
@@ -46,25 +47,25 @@ fn line(file: usize, kept: &[(Shares, f64)]) -> (f64, f64) {
     let slope = above / sum(1E-8, &|x, _| (x - x_mean) * (x - x_mean));
     let intercept = y_mean - slope * x_mean;
     let or = |x: f64, other: f64| if x.is_finite() { x } else { other };
-    (or(slope, 1.0), or(intercept, 0.0))
+    (or(slope, 1.0), or(intercept, 0.0), points.len())
 }
 
 /// The records' patterns by the rendering above.
-fn rendered(rows: &[Row]) -> Vec<[u64; 3]> {
+fn rendered(rows: &[Row]) -> Vec<[u64; 4]> {
     let longest = longest(rows);
     let kept = kept(rows, &longest);
     let record = |file: usize| {
-        let (slope, intercept) = line(file, &kept);
-        [longest[file] as f32, slope as f32, intercept as f32].map(bits32)
+        let (slope, intercept, points) = line(file, &kept);
+        let [longest, slope, intercept] =
+            [longest[file] as f32, slope as f32, intercept as f32].map(bits32);
+        [longest, slope, intercept, points as u64]
     };
     (0..FILES).map(record).collect()
 }
 
 /// The records' patterns by the Rust.
-fn records(rows: &[Row]) -> Vec<[u64; 3]> {
-    let record =
-        |a: &sage::ml::retention_alignment::Alignment| [a.max_rt, a.slope, a.intercept].map(bits32);
-    align(FILES, rows).records.iter().map(record).collect()
+fn records(rows: &[Row]) -> Vec<[u64; 4]> {
+    align(FILES, rows).patterns()
 }
 
 fn row(file: usize, peptide: usize, rt: f32) -> Row {
@@ -88,6 +89,18 @@ fn random_batches() {
     }
 }
 
+/// Two rows of a peptide count once. Peptide 1 is dropped for its time in file 1 and peptide 27 for its mean 0:
+/// they count in no file.
+#[test]
+fn kept_peptides_are_counted() {
+    let mut rows = vec![row(0, 0, 5.0), row(0, 0, 7.0), row(0, 1, 3.0), row(1, 1, f32::NAN)];
+    rows.extend((2..27).map(|peptide| row(3, peptide, peptide as f32)));
+    rows.push(row(3, 27, 0.0));
+    let all = records(&rows);
+    assert_eq!(all, rendered(&rows));
+    assert_eq!([0, 1, 2, 3].map(|file: usize| all[file][3]), [1, 0, 0, 25]);
+}
+
 /// Shares 1, -1 and 1E-20 add up to a normal number in rising order of the files, and to 0 in most
 /// others, which would drop the peptide. A map that hashes takes another order in some of the tries.
 #[test]
@@ -96,7 +109,7 @@ fn files_in_rising_number() {
     let mut rows = vec![row(2, 0, 1E-20), row(1, 0, -8.0), row(0, 0, 8.0)];
     rows.extend(outside);
     for _ in 0..30 {
-        let slopes: Vec<u64> = records(&rows).iter().map(|record| record[1]).collect();
-        assert_eq!(slopes[..3], [bits32(0.0); 3]);
+        let kept = records(&rows).iter().map(|record| [record[1], record[3]]).collect::<Vec<_>>();
+        assert_eq!(kept[..3], [[bits32(0.0), 1]; 3]);
     }
 }

@@ -6,12 +6,6 @@ use oracle::solve::ridges;
 use oracle::text::{bits32, bits64};
 use sage::database::PeptideIx;
 
-/// The records' patterns.
-fn records(files: usize, rows: &[Row]) -> Vec<[u64; 3]> {
-    let aligned = align(files, rows);
-    aligned.records.iter().map(|a| [a.max_rt, a.slope, a.intercept].map(bits32)).collect()
-}
-
 /// Training rows with random times in few files and peptides, one time in four a zero.
 fn rows(r: &mut Rng) -> Vec<Row> {
     let row = |r: &mut Rng| {
@@ -46,11 +40,11 @@ fn the_sign_of_a_zero_time_is_not_seen() {
     let mut r = Rng::new(3);
     for _ in 0..200 {
         let mut rows = rows(&mut r);
-        let before = records(3, &rows);
+        let before = align(3, &rows).patterns();
         for row in rows.iter_mut().filter(|row| row.rt == 0.0) {
             row.rt = r.pick(&[0.0, -0.0]);
         }
-        assert_eq!(records(3, &rows), before);
+        assert_eq!(align(3, &rows).patterns(), before);
     }
 }
 
