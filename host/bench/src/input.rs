@@ -54,7 +54,8 @@ pub struct Work {
     features: Vec<Feature>,
     input: Input,
     workspace: Vec<f64>,
-    records: [Vec<f32>; 3],
+    lines: [Vec<f32>; 3],
+    used: Vec<u32>,
     beta: Vec<f64>,
     predicted: Vec<f32>,
     error: Vec<f32>,
@@ -70,7 +71,8 @@ impl Work {
             input: Input::new(&batch, vec![0.0; n]),
             db: IndexedDatabase { peptides: batch.peptides },
             workspace: vec![0.0; (FILES * peptides).max(mobility::WORKSPACE)],
-            records: [vec![0.0; FILES], vec![0.0; FILES], vec![0.0; FILES]],
+            lines: [vec![0.0; FILES], vec![0.0; FILES], vec![0.0; FILES]],
+            used: vec![0; FILES],
             beta: vec![0.0; mobility::COLUMNS],
             predicted: vec![0.0; n],
             error: vec![0.0; n],
@@ -86,8 +88,9 @@ impl Work {
 
     pub fn align(&mut self) {
         let Input { rows, aligned, table } = &mut self.input;
-        let records = self.records.each_mut().map(Vec::as_mut_slice);
-        let status = align(rows, FILES, table.len(), &mut self.workspace, records, aligned);
+        let lines = self.lines.each_mut().map(Vec::as_mut_slice);
+        let (work, used) = (&mut self.workspace, &mut self.used);
+        let status = align(rows, FILES, table.len(), work, lines, used, aligned);
         assert_eq!(status, 0);
     }
 

@@ -2,13 +2,14 @@
 
 use crate::cells::{same, Cell};
 use crate::psm::{Peptides, Psm};
+use oracle::alignment::{align, Row};
 use oracle::rng::Rng;
 use oracle::run::Batch;
 use sage::database::{IndexedDatabase, PeptideIx};
-use sage::ml::{mobility_model, retention_alignment, retention_model};
+use sage::ml::{mobility_model, retention_model};
 use sage::peptide::Peptide;
 use sage::scoring::Feature;
-use zorkamai::adapters;
+use zorkamai::{adapters, Alignment};
 
 /// A batch of any family through sage's three calls and, the peptides' numbers moved apart, through the
 /// adapters.
@@ -17,16 +18,17 @@ pub fn case(r: &mut Rng) -> Result<usize, String> {
     let apart = r.pick(&[1, 7, 1_000, 1 << 20]);
     let table: Vec<(u32, Peptide)> = (0..).step_by(apart).zip(peptides.iter().cloned()).collect();
     let db = IndexedDatabase { peptides };
-    let mut sage: Vec<Feature> = rows.iter().map(|row| row.feature()).collect();
-    let psm = |f: &Feature| {
-        let peptide_idx = PeptideIx(f.peptide_idx.0 * apart as u32);
-        Psm(Feature { peptide_idx, ..f.clone() })
+    let psm = |row: &Row| {
+        let peptide_idx = PeptideIx(row.peptide.0 * apart as u32);
+        Psm(Feature { peptide_idx, ..row.feature() })
     };
-    let mut ours: Vec<Psm> = sage.iter().map(psm).collect();
+    let mut ours: Vec<Psm> = rows.iter().map(psm).collect();
     let peptides = Peptides(&table);
 
-    retention_alignment::global_alignment(&mut sage, files);
-    adapters::global_alignment(&mut ours, files).map_err(|e| e.to_string())?;
+    let want = align(files, &rows);
+    let records = adapters::global_alignment(&mut ours, files).map_err(|e| e.to_string())?;
+    same("records", records.iter().map(patterns).collect(), want.patterns())?;
+    let mut sage = want.features;
     let fits = retention_model::predict(&db, &mut sage).is_some();
     same("retention fits", adapters::predict_retention(&peptides, &mut ours).is_ok(), fits)?;
     let fits = mobility_model::predict(&db, &mut sage).is_some();
@@ -39,4 +41,9 @@ pub fn case(r: &mut Rng) -> Result<usize, String> {
         same("delta_ims_model", g.delta_ims_model.pattern(), f.delta_ims_model.written())?;
     }
     Ok(3)
+}
+
+/// A record's fields.
+fn patterns(a: &Alignment) -> [u64; 4] {
+    [a.max_rt.pattern(), a.slope.pattern(), a.intercept.pattern(), a.used.pattern()]
 }

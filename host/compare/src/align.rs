@@ -21,6 +21,8 @@ pub struct Outputs {
     pub workspace: Output<f64>,
     /// The longest times, slopes, intercepts and aligned times.
     pub floats: [Output<f32>; 4],
+    /// The numbers of kept peptides.
+    pub used: Output<u32>,
 }
 
 impl Outputs {
@@ -33,35 +35,49 @@ impl Outputs {
                 Output::new(r, "intercept", batch.files),
                 Output::new(r, "aligned", batch.rows.len()),
             ],
+            used: Output::new(r, "used", batch.files),
         }
     }
 
     pub fn call(&mut self, rows: &zorkamai::Rows, files: usize, peptides: usize) -> u8 {
         let [max_rt, slope, intercept, aligned] = &mut self.floats;
-        let records = [&mut max_rt.now[..], &mut slope.now, &mut intercept.now];
-        calls::align(rows, files, peptides, &mut self.workspace.now, records, &mut aligned.now)
+        let lines = [&mut max_rt.now[..], &mut slope.now, &mut intercept.now];
+        let (work, used) = (&mut self.workspace.now, &mut self.used.now);
+        calls::align(rows, files, peptides, work, lines, used, &mut aligned.now)
+    }
+
+    fn reset(&mut self) {
+        self.workspace.reset();
+        self.floats.iter_mut().for_each(Output::reset);
+        self.used.reset();
     }
 
     fn unchanged(&self) -> Result<(), String> {
         self.workspace.unchanged()?;
-        self.floats.iter().try_for_each(Output::unchanged)
+        self.floats.iter().try_for_each(Output::unchanged)?;
+        self.used.unchanged()
     }
 }
 
 /// The call is accepted and gives what the Rust gives.
 pub fn accepted(batch: &Rows, rows: &zorkamai::Rows, out: &mut Outputs) -> Result<(), String> {
     same("status", out.call(rows, batch.files, batch.peptides), 0)?;
-    holds_aligned(&out.floats, &align(batch.files, &batch.rows))?;
+    holds_aligned(&out.floats, &out.used, &align(batch.files, &batch.rows))?;
     out.workspace.zeroed()
 }
 
-/// The longest times, slopes, intercepts and aligned times are the Rust's.
-pub fn holds_aligned(floats: &[Output<f32>], want: &Aligned) -> Result<(), String> {
+/// The longest times, slopes, intercepts and aligned times are the Rust's, and so are the numbers of kept peptides.
+pub fn holds_aligned(
+    floats: &[Output<f32>],
+    used: &Output<u32>,
+    want: &Aligned,
+) -> Result<(), String> {
     let of = |cell: fn(&Alignment) -> f32| want.records.iter().map(cell).collect::<Vec<f32>>();
     floats[0].holds(&of(|a| a.max_rt))?;
     floats[1].holds(&of(|a| a.slope))?;
     floats[2].holds(&of(|a| a.intercept))?;
-    floats[3].holds(&want.times())
+    floats[3].holds(&want.times())?;
+    used.holds(&want.used)
 }
 
 /// Refused with this status, and nothing changed.
@@ -82,8 +98,7 @@ fn damaged(
     rows: &zorkamai::Rows,
     out: &mut Outputs,
 ) -> Result<usize, String> {
-    out.workspace.reset();
-    out.floats.iter_mut().for_each(Output::reset);
+    out.reset();
     let (files, peptides, n) = (batch.files, batch.peptides, rows.len());
     let mut calls = 0;
     let mut refuse = |out: &mut Outputs, rows: &zorkamai::Rows, files, peptides, status| {
@@ -111,19 +126,6 @@ fn damaged(
     let many = r.pick(&[1_048_577, 1 << 32, usize::MAX]);
     refuse(out, rows, files, many, 2)?;
     refuse(out, rows, 1_024, 16_385, 2)?;
-    // A slice one short.
-    if out.workspace.needed() > 0 {
-        let whole = out.workspace.cut();
-        refuse(out, rows, files, peptides, 3)?;
-        out.workspace = whole;
-    }
-    for i in 0..4 {
-        if out.floats[i].needed() > 0 {
-            let whole = out.floats[i].cut();
-            refuse(out, rows, files, peptides, 3)?;
-            out.floats[i] = whole;
-        }
-    }
     // A number out of range; a file's before a peptide's.
     if n > 0 {
         let at = r.below(n);
@@ -134,5 +136,30 @@ fn damaged(
         damaged.file[r.below(n)] = files as u32 + past;
         refuse(out, &damaged, files, peptides, 4)?;
     }
+    Ok(calls + too_short(batch, rows, out)?)
+}
+
+/// Each slice one short.
+fn too_short(batch: &Rows, rows: &zorkamai::Rows, out: &mut Outputs) -> Result<usize, String> {
+    let mut calls = 0;
+    let mut refuse = |out: &mut Outputs| {
+        calls += 1;
+        refused(out, rows, batch.files, batch.peptides, 3)
+    };
+    if out.workspace.needed() > 0 {
+        let whole = out.workspace.cut();
+        refuse(out)?;
+        out.workspace = whole;
+    }
+    for i in 0..4 {
+        if out.floats[i].needed() > 0 {
+            let whole = out.floats[i].cut();
+            refuse(out)?;
+            out.floats[i] = whole;
+        }
+    }
+    let whole = out.used.cut();
+    refuse(out)?;
+    out.used = whole;
     Ok(calls)
 }

@@ -1,5 +1,5 @@
-//! What the library's calls read of a batch, and the calls of the alignment and of both models. `host/bench` and `host/oracle`'s
-//! test of edits compile this file too.
+//! What the library's calls read of a batch, and the calls of the alignment and of both models. `host/bench` and
+//! `host/oracle`'s test of edits compile this file too.
 
 use oracle::alignment::Row;
 use oracle::run::Batch;
@@ -26,19 +26,21 @@ pub fn columns(rows: &[Row]) -> Rows {
     rows.iter().map(row).collect()
 }
 
-/// Calls the alignment, which writes longest times, slopes and intercepts to `records`.
+/// Calls the alignment, which writes longest times, slopes and intercepts to `lines`, and the numbers of kept
+/// peptides to `used`.
 pub fn align(
     rows: &Rows,
     files: usize,
     peptides: usize,
     work: &mut [f64],
-    records: [&mut [f32]; 3],
+    lines: [&mut [f32]; 3],
+    used: &mut [u32],
     aligned: &mut [f32],
 ) -> u8 {
     let Rows { file, peptide, label, q, rt, .. } = rows;
-    let [max_rt, slope, intercept] = records;
+    let [max_rt, slope, intercept] = lines;
     raw::align(
-        file, peptide, label, q, rt, files, peptides, work, max_rt, slope, intercept, aligned,
+        file, peptide, label, q, rt, files, peptides, work, max_rt, slope, intercept, used, aligned,
     )
 }
 

@@ -3,13 +3,13 @@
 use oracle::rng::Rng;
 use oracle::text::{bits32, bits64};
 
-/// A float by its pattern.
+/// A float or a count by its pattern.
 pub trait Cell: Copy {
     /// The pattern as it is.
     fn pattern(self) -> u64;
     /// The pattern that must be written for it: the one NaN for any NaN.
     fn written(self) -> u64;
-    /// Any float.
+    /// Any float or count.
     fn from_bits(bits: u64) -> Self;
 }
 
@@ -34,6 +34,18 @@ impl Cell for f32 {
     }
     fn from_bits(bits: u64) -> f32 {
         f32::from_bits(bits as u32)
+    }
+}
+
+impl Cell for u32 {
+    fn pattern(self) -> u64 {
+        self as u64
+    }
+    fn written(self) -> u64 {
+        self as u64
+    }
+    fn from_bits(bits: u64) -> u32 {
+        bits as u32
     }
 }
 

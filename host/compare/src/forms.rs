@@ -10,9 +10,13 @@ use zorkamai::{raw, Alignment};
 pub fn records(r: &mut Rng) -> Result<usize, String> {
     let float = |r: &mut Rng| f32::from_bits(any32(r));
     let n = r.below(6);
-    let records: Vec<Alignment> = (0..n)
-        .map(|_| Alignment { max_rt: float(r), slope: float(r), intercept: float(r) })
-        .collect();
+    let record = |r: &mut Rng| Alignment {
+        max_rt: float(r),
+        slope: float(r),
+        intercept: float(r),
+        used: any32(r),
+    };
+    let records: Vec<Alignment> = (0..n).map(|_| record(r)).collect();
     let files = [0, 1, n as u32, n as u32 + 1, r.below(n + 1) as u32, u32::MAX, 1 << 31];
     for file in files {
         let rt = float(r);
@@ -27,6 +31,7 @@ pub fn records(r: &mut Rng) -> Result<usize, String> {
         same("max_rt", found.max_rt.pattern(), record.max_rt.written())?;
         same("slope", found.slope.pattern(), record.slope.written())?;
         same("intercept", found.intercept.pattern(), record.intercept.written())?;
+        same("used", found.used, record.used)?;
         same("status", time.status, status)?;
         same("aligned", time.aligned.pattern(), aligned.written())?;
     }

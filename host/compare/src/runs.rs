@@ -18,11 +18,12 @@ pub fn case(r: &mut Rng) -> Result<usize, String> {
     Ok(1 + damaged(r, &batch, &input, &mut out)?)
 }
 
-/// The slices that a run writes: the work room and both models' coefficients; the records, the aligned times and
-/// both models' predictions and errors.
+/// The slices that a run writes: the work room and both models' coefficients; the lines, the aligned times and
+/// both models' predictions and errors; the numbers of kept peptides.
 pub struct Outputs {
     doubles: [Output<f64>; 3],
     floats: [Output<f32>; 8],
+    used: Output<u32>,
 }
 
 impl Outputs {
@@ -45,7 +46,7 @@ impl Outputs {
             Output::new(r, "retention_beta", retention::COLUMNS),
             Output::new(r, "mobility_beta", mobility::COLUMNS),
         ];
-        Outputs { doubles, floats }
+        Outputs { doubles, floats, used: Output::new(r, "used", files) }
     }
 
     fn call(&mut self, i: &Input, files: usize) -> raw::RunReport {
@@ -68,6 +69,7 @@ impl Outputs {
             &mut max_rt.now,
             &mut slope.now,
             &mut intercept.now,
+            &mut self.used.now,
             &mut aligned.now,
             &mut beta.now,
             &mut x.now,
@@ -78,9 +80,16 @@ impl Outputs {
         )
     }
 
+    fn reset(&mut self) {
+        self.doubles.iter_mut().for_each(Output::reset);
+        self.floats.iter_mut().for_each(Output::reset);
+        self.used.reset();
+    }
+
     fn unchanged(&self) -> Result<(), String> {
         self.doubles.iter().try_for_each(Output::unchanged)?;
-        self.floats.iter().try_for_each(Output::unchanged)
+        self.floats.iter().try_for_each(Output::unchanged)?;
+        self.used.unchanged()
     }
 }
 
@@ -92,7 +101,7 @@ pub fn accepted(batch: &Batch, input: &Input, want: &Run, out: &mut Outputs) -> 
     is_fit("mobility", report.mobility, &want.mobility)?;
     out.doubles[0].zeroed()?;
     let features = &want.aligned.features;
-    holds_aligned(&out.floats[..4], &want.aligned)?;
+    holds_aligned(&out.floats[..4], &out.used, &want.aligned)?;
     holds_column(&out.floats[4], &want.retention, features, |f| f.predicted_rt)?;
     holds_column(&out.floats[5], &want.retention, features, |f| f.delta_rt_model)?;
     holds_column(&out.floats[6], &want.mobility, features, |f| f.predicted_ims)?;
@@ -116,8 +125,7 @@ const CUTS: [Cut; 8] = [
 /// Each column one short, each slice one short, limits passed, broken tables and numbers out of range: refused, and
 /// nothing changed.
 fn damaged(r: &mut Rng, batch: &Batch, input: &Input, out: &mut Outputs) -> Result<usize, String> {
-    out.doubles.iter_mut().for_each(Output::reset);
-    out.floats.iter_mut().for_each(Output::reset);
+    out.reset();
     let mut calls = 0;
     let mut refuse = |out: &mut Outputs, input: &Input, files: usize, status: u8| {
         calls += 1;
@@ -145,6 +153,9 @@ fn damaged(r: &mut Rng, batch: &Batch, input: &Input, out: &mut Outputs) -> Resu
             out.floats[i] = whole;
         }
     }
+    let whole = out.used.cut();
+    refuse(out, input, files, 3)?;
+    out.used = whole;
     for (damaged, status) in broken(r, input) {
         refuse(out, &damaged, files, status)?;
     }

@@ -18,7 +18,7 @@ impl Answer {
     pub fn read(input: &mut Tokens, batch: &Batch) -> Result<Answer, String> {
         assert_eq!(input.bits()?, 0, "a run is accepted");
         let n = batch.rows.len();
-        let mut fitted = input.column(3 * batch.files, Tokens::bits)?;
+        let mut fitted = input.column(4 * batch.files, Tokens::bits)?;
         let mut columns = vec![input.column(n, Tokens::bits)?];
         let mut fits = [0; 2];
         for (fit, order) in fits.iter_mut().zip([69, 100]) {
@@ -37,12 +37,14 @@ impl Answer {
 
     /// What the library gave.
     pub fn of(run: &Run) -> Answer {
-        let records = &run.aligned.records;
-        let record = |cell: fn(&Alignment) -> f32| records.iter().map(cell).collect::<Vec<f32>>();
-        let mut fitted = [record(|a| a.max_rt), record(|a| a.slope), record(|a| a.intercept)]
-            .iter()
-            .flat_map(|cells| patterns(cells))
-            .collect::<Vec<u64>>();
+        let cells: [fn(&Alignment) -> u64; 4] = [
+            |a| a.max_rt.to_bits() as u64,
+            |a| a.slope.to_bits() as u64,
+            |a| a.intercept.to_bits() as u64,
+            |a| a.used as u64,
+        ];
+        let column = |cell| run.aligned.records.iter().map(cell);
+        let mut fitted: Vec<u64> = cells.into_iter().flat_map(column).collect();
         let mut columns = vec![patterns(&run.aligned.aligned)];
         let fits = [&run.retention, &run.mobility].map(|model| match model {
             Ok(Predicted { fit, predicted, error }) => {

@@ -1,6 +1,6 @@
 //! The comparison sees what the rule forbids, whoever answers.
 
-use crate::answer::Answer;
+use crate::answer::{rust, Answer};
 use crate::ends::{all_fields, host_pairs, without_number, Difference, Ends};
 use crate::library::{adapted, one_call, three_calls, with_times};
 use oracle::alignment::{align, Row};
@@ -8,7 +8,6 @@ use oracle::gen::edits::{stored, trains};
 use oracle::gen::{alignment, run};
 use oracle::rng::Rng;
 use oracle::run::Batch;
-use oracle::text::bits32;
 use sage::database::PeptideIx;
 use sage::peptide::Peptide;
 use std::collections::BTreeSet;
@@ -65,10 +64,26 @@ fn an_edit_that_the_rule_forbids_is_seen() {
     }
 }
 
+/// A count that moves alone: a training row gets a peptide with the letters and the mass of the one it had, and
+/// all rows have one time.
+#[test]
+fn a_count_that_moves_alone_is_seen() {
+    let mut before = run::batch(&mut Rng::new(5), 1, 2, 1);
+    before.peptides[1] = before.peptides[0].clone();
+    let row = Row { peptide: PeptideIx(0), label: 1, q: 0.0, rt: 10.0, ..before.rows[0] };
+    before.rows = vec![row; 2];
+    let mut after = before.clone();
+    after.rows[1].peptide = PeptideIx(1);
+    is_seen(&before, &after);
+    let [before, after] = [rust(&before), rust(&after)];
+    let moved: Vec<usize> =
+        (0..before.fitted.len()).filter(|&i| before.fitted[i] != after.fitted[i]).collect();
+    assert_eq!((moved, before.rows), (vec![3], after.rows));
+}
+
 /// The records' patterns.
-fn records(batch: &Batch) -> Vec<[u64; 3]> {
-    let aligned = align(batch.files, &batch.rows);
-    aligned.records.iter().map(|a| [a.max_rt, a.slope, a.intercept].map(bits32)).collect()
+fn records(batch: &Batch) -> Vec<[u64; 4]> {
+    align(batch.files, &batch.rows).patterns()
 }
 
 /// A batch of the alignment's families after two peptides that training rows have exchanged their numbers.

@@ -54,24 +54,35 @@ fn doubles(r: &mut Rng, n: usize) -> Vec<f64> {
     (0..n).map(|_| f64::from_bits(any64(r))).collect()
 }
 
-/// The same, now and then some more than so many.
-fn floats(r: &mut Rng, n: usize) -> Vec<f32> {
+/// Counts of any content, now and then some more than so many.
+fn counts(r: &mut Rng, n: usize) -> Vec<u32> {
     let n = if r.one_in(3) { n + r.range(1, 5) } else { n };
-    (0..n).map(|_| f32::from_bits(any32(r))).collect()
+    (0..n).map(|_| any32(r)).collect()
+}
+
+/// The same of floats, NaNs too.
+fn floats(r: &mut Rng, n: usize) -> Vec<f32> {
+    counts(r, n).into_iter().map(f32::from_bits).collect()
 }
 
 fn align(r: &mut Rng, input: &Input, files: usize, more: usize) -> Aligned {
     let (rows, peptides) = (&input.rows, input.table.len());
     let mut workspace = doubles(r, peptides * files + more);
-    let mut records = [(); 3].map(|_| floats(r, files));
+    let mut lines = [(); 3].map(|_| floats(r, files));
+    let mut used = counts(r, files);
     let mut aligned = floats(r, rows.len());
-    let cells = records.each_mut().map(Vec::as_mut_slice);
-    let status = calls::align(rows, files, peptides, &mut workspace, cells, &mut aligned);
+    let cells = lines.each_mut().map(Vec::as_mut_slice);
+    let status =
+        calls::align(rows, files, peptides, &mut workspace, cells, &mut used, &mut aligned);
     assert_eq!(status, 0, "an alignment is accepted");
     aligned.truncate(rows.len());
-    let [max_rt, slope, intercept] = records;
-    let record =
-        |i: usize| Alignment { max_rt: max_rt[i], slope: slope[i], intercept: intercept[i] };
+    let [max_rt, slope, intercept] = lines;
+    let record = |i: usize| Alignment {
+        max_rt: max_rt[i],
+        slope: slope[i],
+        intercept: intercept[i],
+        used: used[i],
+    };
     Aligned { records: (0..files).map(record).collect(), aligned }
 }
 
