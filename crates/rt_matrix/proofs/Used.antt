@@ -1,4 +1,5 @@
--- How many peptides carry a file's line: no more than there are.
+-- How many peptides carry a file's line: no more than there are, and where none does the line is the one that leaves
+-- shares as they are.
 use mathlib.Core.Path.{_≡_, refl, ap, _∙_}
 use mathlib.Core.Bool.{Bool, true, false, cond}
 use mathlib.Core.List.{List, [], _∷_, map, zipWith}
@@ -7,11 +8,13 @@ use Prim.Native.Nat.{ℕ, suc, _≤_, _<_}
 use native.Mathlib.Decide.{decLt}
 use native.Mathlib.Omega.{arith}
 use lib.ListN.{length, getD, length-append, length-map, List·getD-eq-default}
-use lib.Ieee.{Float, binary64}
-use Rattle.float.specs.Value.{isNormal}
+use lib.Ieee.{Float, binary32, binary64, sub, mul, div, ofInt, ofBits, round}
+use Rattle.float.specs.Convert.{narrowed}
+use Rattle.float.specs.Number.{number}
+use Rattle.float.specs.Value.{isFinite, isNormal}
 use Rattle.matrix.specs.Lists.{tabulate}
 use Rattle.matrix.proofs.Lists.{length-tabulate, getD-tabulate}
-use Rattle.rt_matrix.specs.Line.{share, mean, keptRows, pointOf, points, lineOf, line, lines}
+use Rattle.rt_matrix.specs.Line.{Point, share, mean, keptRows, pointOf, points, finiteOr, lineOf, line, lines}
 use Rattle.rt_matrix.specs.declared.Alignment.{Alignment}
 use Rattle.rt_matrix.proofs.RecordColumns.{noRecord}
 
@@ -68,3 +71,13 @@ used-few ms rows f = go (decLt f (length ms))
           arith,
           ap (λ (a : Alignment). a .used) (List·getD-eq-default (tabulate (length ms) at) noRecord {n = f} past),
         )
+
+-- a file that no peptide carries: slope 1, intercept 0
+abbrev pub uncarried : ℕ → Alignment
+uncarried m =
+    record { «max_rt» = narrowed (number m); slope = ofBits binary32 0x3f80_0000; intercept = ofBits binary32 0; used = 0 }
+
+pub unused-line : (m : ℕ) (ps : List Point) → line m ps .used ≡ 0 → line m ps ≡ uncarried m
+unfolding line lineOf finiteOr isFinite narrowed sub mul div ofInt ofBits round
+unused-line m [] h = refl
+unused-line m (p ∷ ps) h = absurd (omega (arith, h))
