@@ -24,6 +24,7 @@ use Rattle.rt_matrix.specs.Line.{lineOf}
 use Rattle.rt_matrix.specs.Columns.{
   FileColumns,
   columnsOf,
+  recordBy,
   recordsOf,
   writtenOver,
   firstOf,
@@ -41,9 +42,6 @@ use Rattle.rt_matrix.proofs.SumColumns.{noSums}
 -- what stands past the end of a list of records
 abbrev pub noRecord : Alignment
 noRecord = record { «max_rt» = nan; slope = nan; intercept = nan; used = 0 }
-
-abbrev row : Float × Float → Float × ℕ → Alignment
-row p q = record { «max_rt» = p .0; slope = p .1; intercept = q .0; used = q .1 }
 
 abbrev fitted : ℕ × Sums → Float → Alignment
 fitted p q = lineOf (p .0) (p .1 .len) (p .1 .dot) (p .1 .«sum_x») (p .1 .«sum_y») q
@@ -73,10 +71,10 @@ recordAt c f =
 module _ (c : FileColumns) where
   pub records-set : (f : ℕ) (a : Alignment) → recordsOf (storedAt f a c) ≡ set (recordsOf c) f a
   records-set f a =
-      ap₂ (zipWith row)
+      ap₂ (zipWith recordBy)
       (zip-set (c .maxRt) (c .slope) f (a .«max_rt») (a .slope))
       (zip-set (c .intercept) (c .used) f (a .intercept) (a .used))
-      ∙ zipWith-set row (zip (c .maxRt) (c .slope)) (zip (c .intercept) (c .used)) f (a .«max_rt», a .slope)
+      ∙ zipWith-set recordBy (zip (c .maxRt) (c .slope)) (zip (c .intercept) (c .used)) f (a .«max_rt», a .slope)
       (a .intercept, a .used)
 
   module _ (n : ℕ) (e : EachOf n c) where
@@ -88,15 +86,15 @@ module _ (c : FileColumns) where
 
     pub length-records : length (recordsOf c) ≡ n
     length-records =
-        length-zipWith row (zip (c .maxRt) (c .slope)) (zip (c .intercept) (c .used)) (omega (arith, left, right))
+        length-zipWith recordBy (zip (c .maxRt) (c .slope)) (zip (c .intercept) (c .used)) (omega (arith, left, right))
         ∙ left
 
     pub records-at : (f : ℕ) (d : Alignment) → f < n → getD (recordsOf c) f d ≡ recordAt c f
     records-at f d h =
-        getD-zipWith row (zip (c .maxRt) (c .slope)) (zip (c .intercept) (c .used)) f (nan, nan) (nan, 0) d
+        getD-zipWith recordBy (zip (c .maxRt) (c .slope)) (zip (c .intercept) (c .used)) f (nan, nan) (nan, 0) d
         (omega (arith, left))
         (omega (arith, right))
-        ∙ ap₂ row
+        ∙ ap₂ recordBy
         (getD-zip (c .maxRt) (c .slope) f nan nan (omega (arith, e .maxRt)) (omega (arith, e .slope)))
         (getD-zip (c .intercept) (c .used) f nan 0 (omega (arith, e .intercept)) (omega (arith, e .used)))
 

@@ -44,13 +44,13 @@ columnsOf records =
       used = map (λ (a : Alignment). a .used) records;
     }
 
+-- the record of a longest time with a slope and of an intercept with a count
+abbrev pub recordBy : Float × Float → Float × ℕ → Alignment
+recordBy p q = record { «max_rt» = p .0; slope = p .1; intercept = q .0; used = q .1 }
+
 -- the records whose fields are these columns
 abbrev pub recordsOf : FileColumns → List Alignment
-recordsOf c =
-    zipWith
-    (λ (p : Float × Float) (q : Float × ℕ). record { «max_rt» = p .0; slope = p .1; intercept = q .0; used = q .1 })
-    (zip (c .maxRt) (c .slope))
-    (zip (c .intercept) (c .used))
+recordsOf c = zipWith recordBy (zip (c .maxRt) (c .slope)) (zip (c .intercept) (c .used))
 
 -- ---- column by column
 
