@@ -1,5 +1,4 @@
 // Writing the answer of the align program. Each function asks for the room it needs, and is for `align_text`.
-ghost use mathlib.Core.Path.{_≡_};
 ghost use Prim.Native.Nat.{_+_, _*_, _≤_};
 ghost use lib.ListN.{length};
 ghost use Rattle.text.specs.Answer.{Wrote};

@@ -1,6 +1,6 @@
 -- The files' records, which lie in a column for each field, as one list: the place where laws name the fields.
 use mathlib.Core.Path.{_≡_, refl, sym, ap, ap₂, _∙_}
-use mathlib.Core.Bool.{Bool, true, _&&_}
+use mathlib.Core.Bool.{true, _&&_}
 use mathlib.Core.List.{List, [], _∷_, map, zip, zipWith}
 use Prim.Native.Nat.{ℕ, _≤_, _<_}
 use native.Mathlib.Omega.{arith}
@@ -10,7 +10,6 @@ use lib.ListN.{length, getD, set, length-map}
 use lib.Seq.{take-at, length-take-le}
 use lib.Ieee.{Float, nan}
 use Rattle.status.proofs.Laws.{and-true}
-use Rattle.matrix.specs.Lists.{overwritten}
 use Rattle.matrix.proofs.Lists.{
   length-zipWith,
   getD-zipWith,

@@ -4,16 +4,13 @@ use mathlib.Core.Path.{_≡_, sym, ap, _∙_}
 use Prim.Native.Nat.{ℕ}
 use lib.Ieee.{Float}
 use borrow.Author.Needs.{needs}
-use Rattle.rt_matrix.specs.declared.Alignment.{Alignment}
+use Rattle.rt_matrix.specs.Columns.{recordBy}
 use Rattle.records.specs.declared.Found.the-variants.{At}
 use Rattle.records.proofs.canonical.Statement.{statement}
 use Rattle.records.proofs.canonical.Tie as tie
 
--- a record of n points, and that equal fields make equal records
-abbrev made : ℕ → Float → Float → Float → Alignment
-made n m s i = record { «max_rt» = m; slope = s; intercept = i; used = n }
-
-same : {n : ℕ} {l m s t i j : Float} → l ≡ m → s ≡ t → i ≡ j → made n l s i ≡ made n m t j
+-- equal fields make equal records
+same : {n : ℕ} {l m s t i j : Float} → l ≡ m → s ≡ t → i ≡ j → recordBy (l, s) (i, n) ≡ recordBy (m, t) (j, n)
 same p q r = cc
 
 enum-known-found : tie.Need-enum-known-found

@@ -1,13 +1,12 @@
 -- `retention_alignment::align` meets its contract: each step's result is what the definitions take next.
-use mathlib.Core.Path.{_≡_, refl, sym, ap, _∙_}
+use mathlib.Core.Path.{_≡_, sym, ap, _∙_}
 use mathlib.Core.List.{List, _++_, map}
-use Prim.Native.Nat.{ℕ, _*_, _≤_, _<_, _^_}
+use Prim.Native.Nat.{ℕ, _*_, _≤_}
 use native.Mathlib.Omega.{arith}
 use borrow.Author.Needs.{needs}
 use denote.Ref.{now}
 use lib.ListN.{length, take, drop, replicate, length-append, length-replicate}
 use lib.Seq.{length-take-le, take-at}
-use lib.Ieee.{Float}
 use Rattle.float.specs.Number.{zero64}
 use Rattle.status.specs.Checks.{allBelow}
 use Rattle.status.specs.Limits.{maxFiles}

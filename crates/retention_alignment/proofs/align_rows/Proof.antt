@@ -9,13 +9,13 @@ use mir.Syntax.{w64}
 use mir.Val.{Fits}
 use denote.Ref.{now}
 use lib.ListN.{length, getD, length-set, length-map, List·getD-map}
-use lib.Ieee.{Float, nan}
+use lib.Ieee.{nan}
 use Rattle.status.proofs.Laws.{below-at}
 use Rattle.matrix.proofs.Lists.{over, zipped-over}
 use Rattle.rt_matrix.proofs.Lists.{upTo, upTo-step, upTo-all}
 use Rattle.retention_alignment.specs.Observation.{Obs, observations}
 use Rattle.retention_alignment.specs.Alignments.{alignedIn}
-use Rattle.retention_alignment.proofs.Rows.{rowAt, rows-at, length-rows}
+use Rattle.retention_alignment.proofs.Rows.{rows-at, length-rows}
 use Rattle.retention_alignment.proofs.align_rows.Statement.{statement}
 use Rattle.retention_alignment.proofs.align_rows.Tie as tie
 

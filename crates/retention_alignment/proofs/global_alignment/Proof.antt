@@ -1,11 +1,11 @@
 -- `retention_alignment::global_alignment` meets its contract: by the status, and with the work's parts written back.
-use mathlib.Core.Path.{_≡_, sym, ap, _∙_}
-use Prim.Native.Nat.{ℕ, _*_, _≤_, _<_, _^_}
+use mathlib.Core.Path.{sym, _∙_}
+use Prim.Native.Nat.{_≤_}
 use native.Mathlib.Omega.{arith}
 use borrow.Author.Needs.{needs}
-use lib.ListN.{length, take}
+use lib.ListN.{length}
 use lib.Seq.{length-take-le}
-use Rattle.rt_matrix.specs.Columns.{EachOf, firstOf, fileColumnsAt}
+use Rattle.rt_matrix.specs.Columns.{fileColumnsAt}
 use Rattle.rt_matrix.proofs.RecordColumns.{first-each}
 use Rattle.retention_alignment.specs.Call.{Input, Slices, inputAt, slicesAt}
 use Rattle.retention_alignment.proofs.Calls.{Passed, passed, refused, accepted-is}

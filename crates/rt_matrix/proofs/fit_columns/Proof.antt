@@ -1,12 +1,11 @@
 -- `rt_matrix::fit_columns` meets its contract: the sums and the squares, taken row by row, are those of each file's
 -- points.
-use mathlib.Core.Path.{_≡_, refl, sym, ap, _∙_}
-use Prim.Native.Nat.{ℕ, _+_, _*_, _<_, _^_}
+use mathlib.Core.Path.{sym, _∙_}
 use native.Mathlib.Omega.{arith}
 use borrow.Author.Needs.{needs}
 use denote.Ref.{now}
-use lib.ListN.{length, getD}
-use Rattle.rt_matrix.specs.Cells.{sumsOf, Sized, Fresh}
+use lib.ListN.{length}
+use Rattle.rt_matrix.specs.Cells.{sumsOf, Sized}
 use Rattle.rt_matrix.proofs.SumColumns.{length-sums}
 use Rattle.rt_matrix.proofs.Fitted.{
   fresh-sized,

@@ -1,17 +1,16 @@
 -- `rt_matrix::fit_lines` meets its contract: the parts of the arrays that it lends are fresh columns.
 use mathlib.Core.Path.{_≡_, refl, sym, ap, _∙_}
 use mathlib.Core.List.{List}
-use Prim.Native.Nat.{ℕ, _≤_, _<_}
+use Prim.Native.Nat.{ℕ, _≤_}
 use native.Mathlib.Omega.{arith}
 use borrow.Author.Needs.{needs}
 use denote.Ref.{now}
 use lib.ListN.{length, take, replicate, length-replicate}
 use lib.Seq.{length-take-le}
-use lib.Ieee.{Float, binary64, ofBits, round}
+use lib.Ieee.{binary64, ofBits, round}
 use Rattle.status.specs.Limits.{maxFiles}
 use Rattle.float.specs.Number.{zero64}
 use Rattle.rt_matrix.specs.Line.{sx2Start}
-use Rattle.rt_matrix.specs.Cells.{Fresh}
 use Rattle.matrix.proofs.Lists.{take-replicate}
 use Rattle.rt_matrix.proofs.fit_lines.Statement.{statement}
 use Rattle.rt_matrix.proofs.fit_lines.Tie as tie

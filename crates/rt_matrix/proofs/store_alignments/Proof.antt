@@ -1,7 +1,7 @@
 -- `rt_matrix::store_alignments` meets its contract. The loop's invariant: the first f records are written (`upTo f`),
 -- and the lengths are as they were.
 use mathlib.Core.Path.{_≡_, refl, sym, ap, _∙_}
-use Prim.Native.Nat.{ℕ, _+_, _-_, _≤_, _<_}
+use Prim.Native.Nat.{ℕ, _-_, _≤_, _<_}
 use native.Mathlib.Omega.{arith}
 use borrow.Author.Needs.{needs}
 use denote.Ref.{now}
