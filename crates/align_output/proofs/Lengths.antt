@@ -11,8 +11,6 @@ use Rattle.text.specs.Decimal.{decimalOf}
 use Rattle.text.specs.Line.{line}
 use Rattle.text.proofs.Decimals.{decimal-length}
 use Rattle.text.proofs.Lists.{drop-next}
-use Rattle.rt_matrix.specs.declared.Alignment.{Alignment}
-use Rattle.rt_matrix.proofs.RecordColumns.{noRecord}
 use Rattle.align_output.specs.Output.{
   statusKey,
   fileKey,
@@ -28,6 +26,8 @@ use Rattle.align_output.specs.Output.{
   alignedText,
   acceptedText,
 }
+use Rattle.align_output.specs.declared.Printed.{Printed}
+use Rattle.align_output.proofs.PrintedColumns.{nonePrinted}
 
 line-length : (key v : List ℕ) → length (line key v) ≡ length key + length v + 1
 line-length key v = simp length-append (omega arith)
@@ -56,7 +56,7 @@ appended a b c d e =
       length-append e [],
     )
 
-pub file-length : (i : ℕ) (a : Alignment) → i < 2 ^ 32 → a .used < 2 ^ 32 → length (fileText i a) ≤ 80
+pub file-length : (i : ℕ) (a : Printed) → i < 2 ^ 32 → a .used < 2 ^ 32 → length (fileText i a) ≤ 80
 unfolding fileText flatten
 file-length i a h u =
     omega (
@@ -70,20 +70,20 @@ file-length i a h u =
       decimal-line-length usedKey (a .used) u,
     )
 
--- records whose counts are of 32 bits
-abbrev pub Counted : List Alignment → Type 0
-Counted records = (k : ℕ) → k < length records → getD records k noRecord .used < 2 ^ 32
+-- files whose counts are of 32 bits
+abbrev pub Counted : List Printed → Type 0
+Counted files = (k : ℕ) → k < length files → getD files k nonePrinted .used < 2 ^ 32
 
-pub files-length : (i : ℕ) (records : List Alignment) → i + length records ≤ 2 ^ 32 → Counted records
-    → length (filesText i records) ≤ 80 * length records
+pub files-length : (i : ℕ) (files : List Printed) → i + length files ≤ 2 ^ 32 → Counted files
+    → length (filesText i files) ≤ 80 * length files
 unfolding filesText
 files-length i [] h u = omega arith
-files-length i (a ∷ records) h u =
+files-length i (a ∷ files) h u =
     omega (
       arith,
-      length-append (fileText i a) (filesText (i + 1) records),
+      length-append (fileText i a) (filesText (i + 1) files),
       file-length i a (omega arith) (u 0 (omega arith)),
-      files-length (i + 1) records (omega arith) (λ k l. u (suc k) (omega (arith, l))),
+      files-length (i + 1) files (omega arith) (λ k l. u (suc k) (omega (arith, l))),
     )
 
 pub aligned-length : (ts : List Float) → length (alignedText ts) ≡ 17 * length ts
@@ -97,29 +97,29 @@ aligned-length (t ∷ ts) =
       aligned-length ts,
     )
 
-pub accepted-length : (records : List Alignment) (ts : List Float) → length records ≤ 2 ^ 32 → Counted records
-    → length (acceptedText records ts) ≤ 18 + 80 * length records + 17 * length ts
+pub accepted-length : (files : List Printed) (ts : List Float) → length files ≤ 2 ^ 32 → Counted files
+    → length (acceptedText files ts) ≤ 18 + 80 * length files + 17 * length ts
 unfolding acceptedText flatten
-accepted-length records ts h u =
+accepted-length files ts h u =
     omega (
       arith,
-      length-append (statusText 0) (filesText 0 records ++ (alignedText ts ++ [])),
-      length-append (filesText 0 records) (alignedText ts ++ []),
+      length-append (statusText 0) (filesText 0 files ++ (alignedText ts ++ [])),
+      length-append (filesText 0 files) (alignedText ts ++ []),
       length-append (alignedText ts) [],
       status-length 0 (omega arith),
-      files-length 0 records (omega arith) u,
+      files-length 0 files (omega arith) u,
       aligned-length ts,
     )
 
 -- ---- the first of what is left
-pub files-next : (records : List Alignment) (d : Alignment) (i : ℕ) → i < length records
-    → filesText i (drop i records) ≡ fileText i (getD records i d) ++ filesText (i + 1) (drop (i + 1) records)
+pub files-next : (files : List Printed) (d : Printed) (i : ℕ) → i < length files
+    → filesText i (drop i files) ≡ fileText i (getD files i d) ++ filesText (i + 1) (drop (i + 1) files)
 unfolding filesText
-files-next records d i h = ap (filesText i) (drop-next d records i h)
+files-next files d i h = ap (filesText i) (drop-next d files i h)
 
-pub files-end : (records : List Alignment) (i : ℕ) → length records ≤ i → filesText i (drop i records) ≡ []
+pub files-end : (files : List Printed) (i : ℕ) → length files ≤ i → filesText i (drop i files) ≡ []
 unfolding filesText
-files-end records i h = ap (filesText i) (drop-of-length-le records h)
+files-end files i h = ap (filesText i) (drop-of-length-le files h)
 
 pub aligned-next : (ts : List Float) (i : ℕ) → i < length ts
     → alignedText (drop i ts) ≡ floatLine alignedKey (getD ts i nan) ++ alignedText (drop (i + 1) ts)

@@ -1,6 +1,6 @@
 -- The text of an answer of the align program. Definitions only.
 use Prim.Native.Nat.{ℕ, _+_}
-use mathlib.Core.List.{List, [], _∷_, _++_, map, flatten}
+use mathlib.Core.List.{List, [], _∷_, _++_, map, zip, zipWith, flatten}
 use lib.Ieee.{Float, binary32, toBits}
 use Rattle.status.specs.Status.{accepted}
 use Rattle.float.specs.Hex.{hexOf}
@@ -8,6 +8,7 @@ use Rattle.text.specs.Ascii.{ascii}
 use Rattle.text.specs.Decimal.{decimalOf}
 use Rattle.text.specs.Line.{line}
 use Rattle.rt_matrix.specs.declared.Alignment.{Alignment}
+use Rattle.align_output.specs.declared.Printed.{Printed}
 
 -- the keys of the output's lines
 abbrev pub statusKey : List ℕ
@@ -41,8 +42,19 @@ unfoldable pub floatLine : List ℕ → Float → List ℕ
 unfolding hexOf toBits
 floatLine key x = line key (hexOf 8 (toBits binary32 x))
 
--- the lines of a file: its number, and its record's longest time, slope, intercept and number of kept peptides
-unfoldable pub fileText : ℕ → Alignment → List ℕ
+-- what is printed of a record: its longest time, slope, intercept and number of kept peptides, and no flag
+abbrev pub printedOf : Alignment → Printed
+printedOf a = record { «max_rt» = a .«max_rt»; slope = a .slope; intercept = a .intercept; used = a .used }
+
+-- the same by its numbers, and of all records by their columns
+abbrev pub printedBy : Float × Float → Float × ℕ → Printed
+printedBy p q = record { «max_rt» = p .0; slope = p .1; intercept = q .0; used = q .1 }
+
+abbrev pub printedIn : (maxRt slope intercept : List Float) (used : List ℕ) → List Printed
+printedIn maxRt slope intercept used = zipWith printedBy (zip maxRt slope) (zip intercept used)
+
+-- the lines of a file: its number, and what is printed of its record
+unfoldable pub fileText : ℕ → Printed → List ℕ
 unfolding flatten floatLine decimalOf
 fileText i a =
     flatten
@@ -53,11 +65,11 @@ fileText i a =
     ∷ line usedKey (decimalOf (a .used))
     ∷ [])
 
--- the lines of the files from number i on, from their records
-unfoldable pub filesText : ℕ → List Alignment → List ℕ
+-- the lines of the files from number i on
+unfoldable pub filesText : ℕ → List Printed → List ℕ
 unfolding fileText
 filesText i [] = []
-filesText i (a ∷ records) = fileText i a ++ filesText (i + 1) records
+filesText i (a ∷ files) = fileText i a ++ filesText (i + 1) files
 
 -- the lines of the rows
 unfoldable pub alignedText : List Float → List ℕ
@@ -65,6 +77,6 @@ unfolding flatten floatLine
 alignedText times = flatten (map (floatLine alignedKey) times)
 
 -- the text of an accepted input's answer: status, files, rows
-unfoldable pub acceptedText : (records : List Alignment) (times : List Float) → List ℕ
+unfoldable pub acceptedText : (files : List Printed) (times : List Float) → List ℕ
 unfolding flatten statusText filesText alignedText
-acceptedText records times = flatten (statusText accepted ∷ filesText 0 records ∷ alignedText times ∷ [])
+acceptedText files times = flatten (statusText accepted ∷ filesText 0 files ∷ alignedText times ∷ [])

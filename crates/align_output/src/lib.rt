@@ -1,17 +1,25 @@
 // Writing the answer of the align program. Each function asks for the room it needs, and is for `align_text`.
+ghost use mathlib.Core.Path.{_≡_};
 ghost use Prim.Native.Nat.{_+_, _*_, _≤_};
 ghost use lib.ListN.{length};
 ghost use Rattle.text.specs.Answer.{Wrote};
-ghost use Rattle.rt_matrix.specs.Columns.{EachOf, fileColumnsAt, fileColumnsOf, recordsOf};
 ghost use Rattle.align_output.specs.Output.{
   statusText,
   floatLine,
+  printedIn,
   fileText,
   filesText,
   alignedText,
   acceptedText,
 };
-use rt_matrix::Alignment;
+
+// What is printed of a file's record.
+pub struct Printed {
+    pub max_rt: f32,
+    pub slope: f32,
+    pub intercept: f32,
+    pub used: u32,
+}
 
 // Writes the line of a status over out from `at` on, and answers the place after it.
 pub fn write_status(out: &mut [u8], at: usize, status: u8) -> usize
@@ -30,7 +38,7 @@ fn write_float(out: &mut [u8], at: usize, key: &[u8], x: f32) -> usize
 }
 
 // Writes the lines of a file over out from `at` on, and answers the place after them.
-fn write_file(out: &mut [u8], at: usize, i: u32, a: Alignment) -> usize
+fn write_file(out: &mut [u8], at: usize, i: u32, a: Printed) -> usize
     requires { ⌜ at + 80 ≤ length (now out) ⌝ }
     ensures { λ r. ⌜ Wrote (now (out .entry)) at (fileText i a) r (now (out .exit)) ⌝ }
 {
@@ -52,18 +60,21 @@ fn write_files(
 ) -> usize
     requires { ⌜ (at + 80 * length (now «max_rt») ≤ length (now out))
         × (length (now «max_rt») ≤ 4096)
-        × EachOf (length (now «max_rt»)) (fileColumnsAt «max_rt» slope intercept used) ⌝ }
+        × (length (now slope) ≡ length (now «max_rt»))
+        × (length (now intercept) ≡ length (now «max_rt»))
+        × (length (now used) ≡ length (now «max_rt»)) ⌝ }
     ensures { λ r. ⌜ Wrote
         (now (out .entry))
         at
-        (filesText 0 (recordsOf (fileColumnsOf «max_rt» slope intercept used .entry)))
+        (filesText 0
+        (printedIn (now («max_rt» .entry)) (now (slope .entry)) (now (intercept .entry)) (now (used .entry))))
         r
         (now (out .exit)) ⌝ }
 {
     let mut next = at;
     let mut i = 0usize;
     while i < max_rt.len() {
-        let a = Alignment {
+        let a = Printed {
             max_rt: max_rt[i],
             slope: slope[i],
             intercept: intercept[i],
@@ -100,11 +111,15 @@ pub fn write_accepted(
 ) -> usize
     requires { ⌜ (18 + 80 * length (now «max_rt») + 17 * length (now aligned) ≤ length (now out))
         × (length (now «max_rt») ≤ 4096)
-        × EachOf (length (now «max_rt»)) (fileColumnsAt «max_rt» slope intercept used) ⌝ }
+        × (length (now slope) ≡ length (now «max_rt»))
+        × (length (now intercept) ≡ length (now «max_rt»))
+        × (length (now used) ≡ length (now «max_rt»)) ⌝ }
     ensures { λ r. ⌜ Wrote
         (now (out .entry))
         0
-        (acceptedText (recordsOf (fileColumnsOf «max_rt» slope intercept used .entry)) (now (aligned .entry)))
+        (acceptedText
+        (printedIn (now («max_rt» .entry)) (now (slope .entry)) (now (intercept .entry)) (now (used .entry)))
+        (now (aligned .entry)))
         r
         (now (out .exit)) ⌝ }
 {

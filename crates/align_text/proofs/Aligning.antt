@@ -15,8 +15,8 @@ use Rattle.status.specs.Limits.{maxFiles, maxRows, maxPeptides, maxCells}
 use Rattle.status.specs.Checks.{every}
 use Rattle.status.specs.Status.{accepted}
 use Rattle.rt_matrix.specs.Line.{lines}
-use Rattle.rt_matrix.specs.Columns.{EachFrom, recordsOf, firstOf}
-use Rattle.rt_matrix.proofs.RecordColumns.{columns-long, from-less, first-written, records-back}
+use Rattle.rt_matrix.specs.Columns.{EachFrom, firstOf}
+use Rattle.rt_matrix.proofs.RecordColumns.{columns-long, from-less, first-written}
 use Rattle.matrix.proofs.Lists.{length-tabulate}
 use Rattle.retention_alignment.specs.Observation.{maxRts}
 use Rattle.retention_alignment.specs.Alignments.{alignments, aligned}
@@ -37,7 +37,8 @@ use Rattle.retention_alignment.specs.Call.{
 use Rattle.retention_alignment.specs.declared.AlignAnswer.{AlignAnswer}
 use Rattle.retention_alignment.specs.declared.AlignAnswer.the-variants.{Accepted, Refused}
 use Rattle.retention_alignment.proofs.Rows.{length-rows}
-use Rattle.align_output.specs.Output.{statusText, acceptedText}
+use Rattle.align_output.specs.Output.{printedOf, statusText, acceptedText}
+use Rattle.align_output.proofs.PrintedColumns.{printedColumns, printed-back}
 use Rattle.align_text.specs.AlignText.{alignmentText, columnsText, columnsStatus}
 use Rattle.align_text.specs.Ready.{Ready}
 use Rattle.align_text.proofs.Statuses.{columns-text}
@@ -134,12 +135,12 @@ module _ (i : Input) (out : List ℕ) (d : Ready i out) where
           ∙ length-rows (i .file) (i .peptide) (i .rt) (d .peptide) (d .rt)
 
       -- the outputs' first cells are the records' and the rows'
-      records-are : recordsOf (firstOf (i .files) (t .records)) ≡ recordsFor i
+      records-are : printedColumns (firstOf (i .files) (t .records)) ≡ map printedOf (recordsFor i)
       unfolding filled
       records-are =
-          ap (λ (x : Slices). recordsOf (firstOf (i .files) (x .records))) after-is
-          ∙ ap recordsOf (first-written (i .files) (s .records) (recordsFor i) (records-long i))
-          ∙ records-back (recordsFor i)
+          ap (λ (x : Slices). printedColumns (firstOf (i .files) (x .records))) after-is
+          ∙ ap printedColumns (first-written (i .files) (s .records) (recordsFor i) (records-long i))
+          ∙ printed-back (recordsFor i)
 
       times : take (length (i .file)) (t .aligned) ≡ map (aligned (recordsFor i)) (rows i)
       unfolding filled
@@ -149,7 +150,7 @@ module _ (i : Input) (out : List ℕ) (d : Ready i out) where
 
       -- the number, and what is written of the outputs is the definition's text
       pub accepted-is : (accepted ≡ columnsStatus i)
-          × (acceptedText (recordsOf (firstOf (i .files) (t .records))) (take (length (i .file)) (t .aligned))
+          × (acceptedText (printedColumns (firstOf (i .files) (t .records))) (take (length (i .file)) (t .aligned))
           ≡ columnsText i)
       unfolding alignmentText
       accepted-is =

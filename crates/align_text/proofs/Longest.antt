@@ -5,7 +5,7 @@ use mathlib.Core.List.{List, map}
 use mathlib.Core.Option.{Option, none, some}
 use Prim.Native.Nat.{ℕ, _≤_}
 use native.Mathlib.Omega.{arith}
-use lib.ListN.{length, getD, length-map}
+use lib.ListN.{length, getD, length-map, List·getD-map}
 use borrow.Author.Tests.{le-leb}
 use Rattle.matrix.specs.Lists.{overwritten}
 use Rattle.matrix.proofs.Lists.{length-tabulate}
@@ -22,8 +22,9 @@ use Rattle.align_input.specs.declared.TextRow.{TextRow}
 use Rattle.align_input.specs.Input.{Input}
 use Rattle.align_input.specs.Parse.{parse}
 use Rattle.align_input.specs.Columns.{rtOf}
-use Rattle.align_output.specs.Output.{statusText}
-use Rattle.align_output.proofs.Lengths.{status-length, accepted-length}
+use Rattle.align_output.specs.Output.{printedOf, statusText}
+use Rattle.align_output.specs.declared.Printed.{Printed}
+use Rattle.align_output.proofs.Lengths.{Counted, status-length, accepted-length}
 use Rattle.align_text.specs.declared.TextAnswer.{TextAnswer}
 use Rattle.align_text.specs.AlignText.{
   withinLimits,
@@ -68,9 +69,16 @@ module _ (i : Call.Input) (files : i .files ≤ 8) (peptides : i .peptides ≤ 6
   unfolding alignmentText
   alignment-short =
       let t = map (aligned (recordsFor i)) (rows i) in
-      let e = records-long i in
+      let printed = map printedOf (recordsFor i) in
+      let e : length printed ≡ i .files = length-map (recordsFor i) printedOf ∙ records-long i in
       let f : length t ≡ length (rows i) = length-map (rows i) (aligned (recordsFor i)) in
-      omega (arith, accepted-length (recordsFor i) t (omega (arith, e)) (λ k l. omega (arith, counts i k)), e, f)
+      let counted : Counted printed = λ k l.
+      omega (
+        arith,
+        ap (λ (p : Printed). p .used) (List·getD-map printedOf (recordsFor i) k noRecord),
+        counts i k,
+      ) in
+      omega (arith, accepted-length printed t (omega (arith, e)) counted, e, f)
 
   columns-short : length (columnsText i) ≤ longest
   unfolding columnsText

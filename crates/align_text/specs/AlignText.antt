@@ -17,7 +17,7 @@ use Rattle.align_input.specs.declared.TextRow.{TextRow}
 use Rattle.align_input.specs.Input.{Input}
 use Rattle.align_input.specs.Parse.{parse}
 use Rattle.align_input.specs.Columns.{qOf, rtOf}
-use Rattle.align_output.specs.Output.{statusText, acceptedText}
+use Rattle.align_output.specs.Output.{printedOf, statusText, acceptedText}
 use Rattle.align_text.specs.declared.TextAnswer.{TextAnswer}
 use Rattle.align_text.specs.declared.TextAnswer.the-variants.{Accepted, Refused}
 
@@ -50,7 +50,7 @@ columnsOf d =
 -- the text of the alignment of columns whose numbers are in range
 unfoldable pub alignmentText : Call.Input → List ℕ
 unfolding acceptedText
-alignmentText i = acceptedText (recordsFor i) (map (aligned (recordsFor i)) (rows i))
+alignmentText i = acceptedText (map printedOf (recordsFor i)) (map (aligned (recordsFor i)) (rows i))
 
 -- the text of the answer to columns: each check over all of them before the next
 unfoldable pub columnsText : Call.Input → List ℕ

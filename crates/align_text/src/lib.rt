@@ -99,6 +99,9 @@ fn answer_rows(
     let mut slope = [0.0f32; FILES_MAX];
     let mut intercept = [0.0f32; FILES_MAX];
     let mut used = [0u32; FILES_MAX];
+    let mut max_rt_exact = [false; FILES_MAX];
+    let mut slope_exact = [false; FILES_MAX];
+    let mut intercept_exact = [false; FILES_MAX];
     let mut aligned = [0.0f32; ROWS_MAX];
     let answer = retention_alignment::global_alignment(
         file,
@@ -113,6 +116,9 @@ fn answer_rows(
         &mut slope,
         &mut intercept,
         &mut used,
+        &mut max_rt_exact,
+        &mut slope_exact,
+        &mut intercept_exact,
         &mut aligned,
     );
     let AlignAnswer::Refused(status) = answer else {

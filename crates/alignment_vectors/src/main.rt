@@ -1,6 +1,6 @@
 // Replays stored alignments of the Rust. Standard input is the number of batches and then, for each, the numbers of
 // files, peptides and rows and the columns file, peptide, label, q and rt; standard output is, for each, the status
-// and the columns max_rt, slope, intercept, used and aligned.
+// and the columns max_rt, slope, intercept, used, max_rt_exact, slope_exact, intercept_exact and aligned.
 use retention_alignment::AlignAnswer;
 use vectors::Token;
 
@@ -26,6 +26,9 @@ fn answer(
     let mut slope = [0.0f32; FILES];
     let mut intercept = [0.0f32; FILES];
     let mut used = [0u32; FILES];
+    let mut max_rt_exact = [false; FILES];
+    let mut slope_exact = [false; FILES];
+    let mut intercept_exact = [false; FILES];
     let mut aligned = [0.0f32; ROWS];
     let a = retention_alignment::global_alignment(
         file,
@@ -40,6 +43,9 @@ fn answer(
         &mut slope,
         &mut intercept,
         &mut used,
+        &mut max_rt_exact,
+        &mut slope_exact,
+        &mut intercept_exact,
         &mut aligned,
     );
     match a {
@@ -50,6 +56,9 @@ fn answer(
             vectors::write_first_f32s(&slope, files);
             vectors::write_first_f32s(&intercept, files);
             vectors::write_first_u32s(&used, files);
+            vectors::write_first_bools(&max_rt_exact, files);
+            vectors::write_first_bools(&slope_exact, files);
+            vectors::write_first_bools(&intercept_exact, files);
             vectors::write_first_f32s(&aligned, file.len());
         }
     }

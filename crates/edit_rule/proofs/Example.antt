@@ -23,17 +23,16 @@ use Rattle.peptide.specs.Table.{Table, climbs, offsetsRight}
 use Rattle.embedding.specs.Count.{howMany, oneOf}
 use Rattle.embedding.specs.declared.Model.{Model}
 use Rattle.embedding.specs.declared.Model.the-variants.{Retention, Mobility}
-use Rattle.regression.specs.Regression.{toldBy as outcomeTold}
 use Rattle.rt_matrix.specs.Columns.{FileColumns}
 use Rattle.retention_alignment.specs.Observation.{observations, maxRt, maxRts}
 use Rattle.retention_alignment.specs.Call.{Input as AlignInput, Slices as AlignSlices, Aligned, status as alignStatus}
 use Rattle.retention_alignment.specs.Call.{statusBy as alignStatusBy, answerOf as alignAnswer, toldBy as alignTold}
 use Rattle.retention_alignment.specs.Call.{filled as alignFilled, slicesAfter as alignAfter}
 use Rattle.model_fit.specs.Input.{Input as ModelInput, columnsAgree, statusBy as modelStatusBy}
-use Rattle.model_fit.specs.Samples.{fitOfInput}
 use Rattle.models.specs.Call.{ModelOutputs, PredictSlices, predictStatus, predictFilled}
-use Rattle.models.specs.Call.{answerOf as modelAnswer, toldBy as modelTold}
-use Rattle.run.specs.Call.{Input, Slices, fittedBy, fitsTold, answerOf, toldBy, slicesAfter, statusBy, status}
+use Rattle.models.specs.Call.{predictOutcome, predictAnswerOf, predictTold, predictOutcomeTold}
+use Rattle.run.specs.Fitted.{ofRetention, ofMobility}
+use Rattle.run.specs.Call.{Input, Slices, predictOutcomeOf, fitsTold, answerOf, toldBy, slicesAfter, statusBy, status}
 use Rattle.run.specs.Parts.{alignInput, retentionInput, mobilityInput}
 use Rattle.edit_rule.specs.Ends.{AcceptedCall, RunEnd, AcceptedPredict, CallsEnd, ofRun, ofCalls, shown}
 use Rattle.edit_rule.specs.EditsOutside.{EditedOutside, Unmoved}
@@ -48,19 +47,18 @@ use Rattle.edit_rule.proofs.Host.{host-unmoved}
 pub runFor : (i : Input) (s : Slices) → status i s ≡ accepted → RunEnd
 unfolding answerOf
 runFor i s h =
-    let f = fittedBy i in
-    let t = gives (fitsTold (f .retention .outcome) (f .mobility .outcome)) in
+    let t = gives (fitsTold (predictOutcomeOf ofRetention i) (predictOutcomeOf ofMobility i)) in
     record {
       input = i;
       call =
           record {
             before = s;
             after = slicesAfter i s;
-            answer = answerOf (status i s) f;
+            answer = answerOf (status i s) i;
             contract =
                 record {
                   answer = refl;
-                  told = ap (λ (n : ℕ). toldBy (answerOf n f)) h ∙ sym (ap (λ (n : ℕ). toldFor n t) h);
+                  told = ap (λ (n : ℕ). toldBy (answerOf n i)) h ∙ sym (ap (λ (n : ℕ). toldFor n t) h);
                   slices = refl;
                 };
             unrefused = h;
@@ -87,17 +85,17 @@ alignFor i s h =
 predictFor : (model : Model) (i : ModelInput) (s : PredictSlices) → predictStatus model i s ≡ accepted
     → AcceptedPredict model i
 predictFor model i s h =
-    let f = fitOfInput model i in
+    let p = predictOutcome model i in
     record {
       before = s;
       after = ifAccepted (predictStatus model i s) (predictFilled model i s) s;
-      answer = modelAnswer (predictStatus model i s) f;
+      answer = predictAnswerOf (predictStatus model i s) p;
       contract =
           record {
             answer = refl;
             told =
-                ap (λ (n : ℕ). modelTold (modelAnswer n f)) h
-                ∙ sym (ap (λ (n : ℕ). toldFor n (outcomeTold (f .outcome))) h);
+                ap (λ (n : ℕ). predictTold (predictAnswerOf n p)) h
+                ∙ sym (ap (λ (n : ℕ). toldFor n (predictOutcomeTold p)) h);
             slices = refl;
           };
       unrefused = h;
@@ -187,7 +185,17 @@ abbrev outputs : ModelOutputs
 outputs = record { coefficients = hundred; predicted = hundred; error = hundred }
 
 abbrev records : FileColumns
-records = record { maxRt = hundred; slope = hundred; intercept = hundred; used = replicate 100 0 }
+records =
+    let flags = replicate 100 true in
+    record {
+      maxRt = hundred;
+      slope = hundred;
+      intercept = hundred;
+      used = replicate 100 0;
+      maxRtExact = flags;
+      slopeExact = flags;
+      interceptExact = flags;
+    }
 
 abbrev slices : Slices
 slices =

@@ -25,11 +25,10 @@ use Rattle.models.specs.Prediction.{isSolved}
 use Rattle.run.specs.Fitted.{Part, ofRetention, ofMobility, modelOf, fitOfPart, resultBy, resultOf}
 use Rattle.run.specs.Fitted.{Fitted, Predicted, RowOutcome, fileRecords, fitted, outcome}
 use Rattle.run.specs.Call.{Input, rows, fittedBy, outcomes, predictedOf}
-use Rattle.run.specs.declared.RunAnswer.the-variants.{Ran}
 use Rattle.run.proofs.Outcomes.{result-solved, results-solved}
 use Rattle.edit_rule.specs.Ends.{Shown}
 use Rattle.edit_rule.specs.EditsOutside.{SameFitted, SameRow, ByDefinition}
-use Rattle.edit_rule.specs.EditsOutside.{writtenBy, fits, writtenFor, outcomeAt}
+use Rattle.edit_rule.specs.EditsOutside.{writtenBy, fits, outcomeIn, writtenFor, outcomeAt}
 use Rattle.edit_rule.proofs.Width.{length-coefficients}
 use Rattle.edit_rule.proofs.Written.{Wrote}
 
@@ -156,12 +155,14 @@ some-is d (some x) = x
 
 module _ (a b : Shown) (v : Wrote a) (w : Wrote b)
     (files : b .input .files ≡ a .input .files) (same : fittedBy (b .input) ≡ fittedBy (a .input)) where
-  same-answer : b .answer ≡ a .answer
-  same-answer =
-      w .answer ∙ ap (λ (f : Fitted). Ran (f .retention .outcome) (f .mobility .outcome)) same ∙ sym (v .answer)
+  -- the outcomes go by the fitted numbers
+  same-outcome : (part : Part) → outcomeIn part (b .answer) ≡ outcomeIn part (a .answer)
+  same-outcome ofRetention = rw (w .answer, v .answer, same) refl
+  same-outcome ofMobility = rw (w .answer, v .answer, same) refl
 
   fits-too : (part : Part) → fits part (a .answer) ≡ true → fits part (b .answer) ≡ true
-  fits-too part h = ap (fits part) same-answer ∙ h
+  fits-too ofRetention h = rw (w .answer, same) (rw (v .answer) at h)
+  fits-too ofMobility h = rw (w .answer, same) (rw (v .answer) at h)
 
   pub same-fitted : SameFitted a b
   same-fitted =
@@ -173,7 +174,7 @@ module _ (a b : Shown) (v : Wrote a) (w : Wrote b)
             ∙ y .records
             ∙ ap (λ (f : Fitted). columnsOf (f .records)) same
             ∙ sym (x .records);
-        answer = same-answer;
+        outcomes = same-outcome;
         coefficients = λ part h.
             y .coefficients part (fits-too part h)
             ∙ ap (λ (f : Fitted). fitOfPart part f .coefficients) same

@@ -18,10 +18,9 @@ use Rattle.retention_alignment.specs.Call.{checks as alignChecks, roomOf as ali
 use Rattle.model_fit.specs.Input.{columnsAgree, checks as modelChecks, statusBy as modelStatusBy}
 use Rattle.models.specs.Call.{ModelOutputs, predictRoomIn}
 use Rattle.run.specs.Fitted.{Part, ofRetention, ofMobility, RowOutcome}
-use Rattle.run.specs.Call.{Input, Slices, peptides, roomOf, fittedBy, status, answerOf, outcomes}
+use Rattle.run.specs.Call.{Input, Slices, peptides, roomOf, fittedBy, status, ranOf, answerOf, outcomes}
 use Rattle.run.specs.Call.{filledModel, filled, slicesAfter}
 use Rattle.run.specs.Parts.{alignInput, mobilityInput}
-use Rattle.run.specs.declared.RunAnswer.the-variants.{Ran}
 use Rattle.run.proofs.Accepted.{ColumnsIn, passed}
 use Rattle.run.proofs.Parts.{AlignPart, align-part, ModelPart}
 use Rattle.run.proofs.Filling.{targets-written, retention-part, mobility-part}
@@ -31,7 +30,7 @@ use Rattle.edit_rule.specs.EditsOutside.{writtenBy}
 pub record Wrote (s : Shown) : Type 0 where
   pub columns : ColumnsIn (s .input)
   pub peptide-numbers : allBelow (peptides (s .input)) (s .input .peptide) ≡ true
-  pub answer : s .answer ≡ Ran (fittedBy (s .input) .retention .outcome) (fittedBy (s .input) .mobility .outcome)
+  pub answer : s .answer ≡ ranOf (s .input)
   pub held-records : FileColumns
   pub records : s .records ≡ writtenOver (columnsOf (fittedBy (s .input) .records)) held-records
   pub held-aligned : List Float
@@ -66,7 +65,7 @@ module _ (e : RunEnd) where
         columns = p .columns;
         peptide-numbers = p .peptide-numbers;
         answer =
-            e .call .contract .answer ∙ ap (λ (n : ℕ). answerOf n (fittedBy (e .input))) (e .call .unrefused);
+            e .call .contract .answer ∙ ap (λ (n : ℕ). answerOf n (e .input)) (e .call .unrefused);
         held-records = e .call .before .records;
         records = ap (λ (s : Slices). s .records) after-is;
         held-aligned = e .call .before .aligned;

@@ -3,7 +3,7 @@
 use mathlib.Core.Path.{_≡_}
 use mathlib.Core.Bool.{Bool, true, false}
 use mathlib.Core.List.{List}
-use mathlib.Core.Option.{some}
+use mathlib.Core.Option.{Option, none, some}
 use Prim.Native.Nat.{ℕ, _<_}
 use lib.Ieee.{nan}
 use lib.ListN.{length, getD, take}
@@ -11,11 +11,12 @@ use Rattle.feature.specs.Feature.{Row, outside, training}
 use Rattle.edits.specs.Edits.{Edit, editedBy, touchOnly, rowAt}
 use Rattle.embedding.specs.Design.{orderOf}
 use Rattle.rt_matrix.specs.Columns.{columnsOf, firstOf}
+use Rattle.regression.specs.declared.FitOutcome.{FitOutcome}
 use Rattle.models.specs.Call.{ModelOutputs}
 use Rattle.models.specs.Prediction.{isSolved}
 use Rattle.run.specs.Fitted.{Part, ofRetention, ofMobility, modelOf, fitOfPart, resultOf}
 use Rattle.run.specs.Fitted.{Predicted, RowOutcome, longest, outcome}
-use Rattle.run.specs.Call.{Input, rows, fittedBy}
+use Rattle.run.specs.Call.{Input, rows, fittedBy, ranOf}
 use Rattle.run.specs.declared.RunAnswer.{RunAnswer}
 use Rattle.run.specs.declared.RunAnswer.the-variants.{Ran, Refused}
 use Rattle.edit_rule.specs.Ends.{Shown}
@@ -27,10 +28,18 @@ writtenBy ofMobility s = s .mobility
 
 -- whether the model fits, by what was answered; it does not with 8 and 9
 abbrev pub fits : Part → RunAnswer → Bool
-fits ofRetention (Ran retention mobility) = isSolved retention
-fits ofMobility (Ran retention mobility) = isSolved mobility
+fits ofRetention (Ran retention mobility) = isSolved (retention .fit)
+fits ofMobility (Ran retention mobility) = isSolved (mobility .fit)
 fits ofRetention (Refused n) = false
 fits ofMobility (Refused n) = false
+
+-- the outcome of its fit, by what was answered: ridge, r2 and n, or 8 or 9. The count beside it is of all rows, those
+-- that an edit may touch too.
+abbrev pub outcomeIn : Part → RunAnswer → Option FitOutcome
+outcomeIn ofRetention (Ran retention mobility) = some (retention .fit)
+outcomeIn ofMobility (Ran retention mobility) = some (mobility .fit)
+outcomeIn ofRetention (Refused n) = none
+outcomeIn ofMobility (Refused n) = none
 
 -- ---- what is supposed
 
@@ -57,10 +66,10 @@ pub record EditedOutside (a b : Input) : Type 0 where
 
 -- the fitted numbers
 pub record SameFitted (a b : Shown) : Type 0 where
-  -- the record of every file
+  -- the record of every file, its flags among them
   pub records : firstOf (a .input .files) (b .records) ≡ firstOf (a .input .files) (a .records)
   -- for either model ridge, r2 and n, which the answer carries, or the same failure 8 or 9
-  pub answer : b .answer ≡ a .answer
+  pub outcomes : (part : Part) → outcomeIn part (b .answer) ≡ outcomeIn part (a .answer)
   -- and its coefficients
   pub coefficients : (part : Part) → fits part (a .answer) ≡ true
       → take (orderOf (modelOf part)) (writtenBy part b .coefficients)
@@ -90,13 +99,13 @@ abbrev pub outcomeAt : Input → ℕ → RowOutcome
 outcomeAt i k = outcome (i .table) (fittedBy i) (rowAt (rows i) k)
 
 -- The fitted numbers, or the failures, are what `fittedBy` gives, which reads the training rows in their order, the
--- file count, the peptide table and the longest times, and nothing that was written; and each row's results are what
--- these numbers and that row give. So no constants would do.
+-- file count, the peptide table and the longest times, and nothing that was written; each row's results are what
+-- these numbers and that row give; and the counts are over all rows. So no constants would do.
 pub record ByDefinition (s : Shown) : Type 0 where
   -- every file's record
   pub records : firstOf (s .input .files) (s .records) ≡ columnsOf (fittedBy (s .input) .records)
-  -- ridge, r2 and n of both models, or 8 or 9
-  pub answer : s .answer ≡ Ran (fittedBy (s .input) .retention .outcome) (fittedBy (s .input) .mobility .outcome)
+  -- ridge, r2 and n of both models, or 8 or 9, and of how many rows narrowing changed the prediction
+  pub answer : s .answer ≡ ranOf (s .input)
   -- the coefficients of either model that fits
   pub coefficients : (part : Part) → fits part (s .answer) ≡ true
       → take (orderOf (modelOf part)) (writtenBy part s .coefficients)

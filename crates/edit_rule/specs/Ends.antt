@@ -13,8 +13,8 @@ use Rattle.embedding.specs.declared.Model.{Model}
 use Rattle.embedding.specs.declared.Model.the-variants.{Retention, Mobility}
 use Rattle.model_fit.specs.Input.{Input as ModelInput}
 use Rattle.models.specs.Call.{ModelOutputs, PredictCall, predictStatus}
-use Rattle.models.specs.declared.FitAnswer.{FitAnswer}
-use Rattle.models.specs.declared.FitAnswer.the-variants.{Fitted, Refused as NoFit}
+use Rattle.models.specs.declared.PredictAnswer.{PredictAnswer}
+use Rattle.models.specs.declared.PredictAnswer.the-variants.{Predicted, Refused as Unpredicted}
 use Rattle.run.specs.Call.{Input, RunCall, status}
 use Rattle.run.specs.Parts.{alignInput, retentionInput, mobilityInput}
 use Rattle.run.specs.declared.RunAnswer.{RunAnswer}
@@ -72,10 +72,10 @@ pub record Shown : Type 0 where
   pub mobility : ModelOutputs
 
 -- the answers to two predictions, as a run answers them
-abbrev pub answersOf : (retention mobility : FitAnswer) → RunAnswer
-answersOf (Fitted retention) (Fitted mobility) = Ran retention mobility
-answersOf (Fitted retention) (NoFit n) = Refused n
-answersOf (NoFit n) mobility = Refused n
+abbrev pub answersOf : (retention mobility : PredictAnswer) → RunAnswer
+answersOf (Predicted retention) (Predicted mobility) = Ran retention mobility
+answersOf (Predicted retention) (Unpredicted n) = Refused n
+answersOf (Unpredicted n) mobility = Refused n
 
 abbrev pub shown : End → Shown
 shown (ofRun e) =

@@ -2,9 +2,9 @@
 use mathlib.Core.Path.{_≡_, refl}
 use mathlib.Core.Bool.{true}
 use mathlib.Core.List.{zipWith, headD}
-use lib.Ieee.{sub, mul, div, le, ofInt, ofBits, toBits, isNan}
+use lib.Ieee.{sub, mul, div, eq, lt, le, ofInt, ofBits, toBits, isNan}
 use Rattle.float.specs.Convert.{narrowed, ceiling}
-use Rattle.float.specs.Value.{isFinite, isNormal, minimum}
+use Rattle.float.specs.Value.{isFinite, isNormal, minimum, clamped}
 use Rattle.mass.specs.Mass.{columnOf, placeFrom, validAa}
 use Rattle.matrix.specs.Rows.{rowsOf, flat}
 use Rattle.status.specs.Checks.{every}
@@ -28,7 +28,8 @@ use Rattle.elimination.specs.Elimination.{
 }
 use Rattle.elimination.specs.Ridge.{ridgesFrom, firstSolved}
 use Rattle.gauss.specs.Solve.{solutionOf}
-use Rattle.regression.specs.Regression.{normal, fitOf}
+use Rattle.regression.specs.Regression.{normal, fitOf, dot}
+use Rattle.embedding.specs.Count.{range, howMany}
 use Rattle.embedding.specs.Design.{design}
 use Rattle.rt_matrix.specs.Line.{share, present, mean, keptRows, pointOf, points, finiteOr, lineOf, line, lines}
 use Rattle.retention_alignment.specs.Observation.{observations, maxRt, maxRts, times, smaller, minRt, minRts}
@@ -38,5 +39,5 @@ use Rattle.align_text.specs.AlignText.{alignText}
 use Rattle.examples.specs.Examples.{sameList, holds, examples}
 
 pub all-hold : every holds examples ≡ true
-unfolding every sameList examples zipWith headD sub mul div le ofInt ofBits toBits narrowed ceiling isFinite isNormal isNan minimum columnOf placeFrom validAa rowsOf flat trains mask kept indexed augmented zipped largest cleared clearBelow columnEliminated echelonFrom leadingZeros divided lessMultiple clearAbove backfillFrom rowSolved solvedFrom eliminate ridgesFrom firstSolved solutionOf normal fitOf design tabulate share present mean keptRows pointOf points finiteOr lineOf line lines observations maxRt maxRts times smaller minRt minRts alignments onLine aligned statusBy filled slicesAfter alignText
+unfolding every sameList examples zipWith headD sub mul div eq lt le ofInt ofBits toBits narrowed ceiling isFinite isNormal isNan minimum clamped columnOf placeFrom validAa rowsOf flat trains mask kept indexed augmented zipped largest cleared clearBelow columnEliminated echelonFrom leadingZeros divided lessMultiple clearAbove backfillFrom rowSolved solvedFrom eliminate ridgesFrom firstSolved solutionOf normal fitOf dot range howMany design tabulate share present mean keptRows pointOf points finiteOr lineOf line lines observations maxRt maxRts times smaller minRt minRts alignments onLine aligned statusBy filled slicesAfter alignText
 all-hold = refl

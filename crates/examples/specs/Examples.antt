@@ -1,8 +1,8 @@
--- Document 01's P examples in its order, and its table's numbers for three small fits: numbers that the definitions
--- give, beside the numbers that the document says. Definitions only.
-use Prim.Native.Nat.{ℕ}
+-- Document 01's P examples in its order, each with the flags of what it narrows, and its table's numbers for three
+-- small fits: numbers that the definitions give, beside the numbers that the documents say. Definitions only.
+use Prim.Native.Nat.{ℕ, _+_}
 use Prim.Native.String.{String}
-use mathlib.Core.Bool.{Bool, true, false, _&&_}
+use mathlib.Core.Bool.{Bool, true, false, _&&_, cond}
 use mathlib.Core.List.{List, [], _∷_, _++_, map}
 use mathlib.Core.Option.{Option, none, some}
 use lib.Dec.{eqb}
@@ -12,17 +12,23 @@ use lib.Ieee.{Float, Format, nan, binary32, binary64, ofBits, toBits}
 use Rattle.text.specs.Ascii.{ascii}
 use Rattle.embedding.specs.declared.Model.{Model}
 use Rattle.embedding.specs.declared.Model.the-variants.{Retention, Mobility}
+use Rattle.float.specs.Convert.{isExact}
 use Rattle.float.specs.Number.{number, sumFrom}
+use Rattle.peptide.specs.Table.{Table}
+use Rattle.embedding.specs.Count.{range}
 use Rattle.embedding.specs.Design.{design, cTerminalAt}
 use Rattle.elimination.specs.Ridge.{Solution, solved, unsolved}
 use Rattle.status.specs.Told.{toldFor}
 use Rattle.gauss.specs.Solve.{solutionOf, solutionTold, statusBy, needed, outputs}
 use Rattle.regression.specs.Regression.{Sample, Values, fitOf, toldBy}
+use Rattle.rt_matrix.specs.Columns.{columnsOf}
 use Rattle.retention_alignment.specs.Observation.{maxRts}
-use Rattle.retention_alignment.specs.Call.{Input, Slices, rows, status, slicesAfter}
+use Rattle.retention_alignment.specs.Call.{Input, Slices, rows, recordsFor, status, slicesAfter}
+use Rattle.model_fit.specs.Input.{queryOf}
+use Rattle.models.specs.Prediction.{inexactIn}
 use Rattle.align_text.specs.AlignText.{alignText}
 
--- what the definitions give, and what document 01 says
+-- what the definitions give, and what the documents say
 pub record Example : Type 0 where
   pub given : List ℕ
   pub said : List ℕ
@@ -41,6 +47,10 @@ bits f xs = map (toBits f) xs
 
 abbrev pub floats : Format → List ℕ → List Float
 floats f bs = map (ofBits f) bs
+
+-- 1 for true and 0 for false
+abbrev pub flags : List Bool → List ℕ
+flags bs = map (λ b. cond b 1 0) bs
 
 -- ---- the alignment
 
@@ -72,7 +82,16 @@ abbrev pub before : Input → Slices
 before i =
     record {
       workspace = unwritten (i .peptides);
-      records = record { maxRt = unwritten 1; slope = unwritten 1; intercept = unwritten 1; used = 7 ∷ [] };
+      records =
+          record {
+            maxRt = unwritten 1;
+            slope = unwritten 1;
+            intercept = unwritten 1;
+            used = 7 ∷ [];
+            maxRtExact = false ∷ [];
+            slopeExact = false ∷ [];
+            interceptExact = false ∷ [];
+          };
       aligned = unwritten (length (i .file));
     }
 
@@ -87,6 +106,12 @@ alignment i =
     let r = after i .records in
     let line = bits binary32 (r .maxRt ++ r .slope ++ r .intercept) in
     status i (before i) ∷ line ++ r .used ++ bits binary32 (after i .aligned)
+
+-- whether the file's longest time, slope and intercept lost nothing as they were narrowed
+abbrev pub exact : Input → List ℕ
+exact i =
+    let r = columnsOf (recordsFor i) in
+    flags (r .maxRtExact ++ r .slopeExact ++ r .interceptExact)
 
 -- ---- the program
 
@@ -111,6 +136,28 @@ total cells = sumFrom (number 0) cells
 -- numbers as the bits of cells
 abbrev pub whole : List ℕ → List ℕ
 whole ns = bits binary64 (map number ns)
+
+-- ---- predictions
+
+-- peptides of the letter A, with these logs, given as bits, and mass 0.0
+abbrev pub withLogs : List ℕ → Table
+withLogs logs =
+    let n = length logs in
+    record {
+      letters = replicate n 65;
+      offsets = range 0 (n + 1);
+      masses = replicate n (number 0);
+      logs = floats binary64 logs;
+    }
+
+-- a coefficient for each column of retention: 1.0 for the log, in column 67, and 0.0 for the others
+abbrev pub logAlone : List Float
+logAlone = map number (replicate 67 0 ++ 1 ∷ 0 ∷ [])
+
+-- how many of the peptides' predictions narrowing changes, where the log is predicted
+abbrev pub inexactLogs : List ℕ → ℕ
+inexactLogs logs =
+    inexactIn Retention (withLogs logs) logAlone (map (λ p. queryOf p 0) (range 0 (length logs)))
 
 -- ---- the solver
 
@@ -167,6 +214,8 @@ unfoldable pub examples : List Example
 examples =
     -- "time 9.2 gives longest 10": the f32 nearest to 9.2
     record { given = longest (oneFile 1 (0x4113_3333 ∷ [])); said = 10 ∷ [] }
+    -- 10 with its flag true; the slope is 0.0, and the intercept the f32's tenth, which no f32 is
+    ∷ record { given = exact (oneFile 1 (0x4113_3333 ∷ [])); said = 1 ∷ 1 ∷ 0 ∷ [] }
     -- "-3.0 gives 0"
     ∷ record { given = longest (oneFile 1 (0xC040_0000 ∷ [])); said = 0 ∷ [] }
     -- "5E9 gives 4,294,967,295, in f32 4,294,967,296", of which the bits are 4F800000
@@ -176,11 +225,37 @@ examples =
           longest i ++ bits binary32 (after i .records .maxRt);
       said = 4_294_967_295 ∷ 0x4F80_0000 ∷ [];
     }
+    -- "A longest time of 4,294,967,295 has its flag false"
+    ∷ record { given = take 1 (exact (oneFile 1 (0x4F95_02F9 ∷ []))); said = 0 ∷ [] }
+    -- narrowing says true for both zeros, both infinities, 10, the largest and the smallest f32, and false for a NaN,
+    -- 4,294,967,295, half of the smallest f32, 1 + 2^-24, and the smallest f64 that becomes an infinity
+    ∷ record {
+      given =
+          flags
+          (map isExact
+          (floats binary64
+          (0
+          ∷ 0x8000_0000_0000_0000
+          ∷ 0x7FF0_0000_0000_0000
+          ∷ 0xFFF0_0000_0000_0000
+          ∷ 0x4024_0000_0000_0000
+          ∷ 0x47EF_FFFF_E000_0000
+          ∷ 0x36A0_0000_0000_0000
+          ∷ 0x7FF8_0000_0000_0000
+          ∷ 0x41EF_FFFF_FFE0_0000
+          ∷ 0x3690_0000_0000_0000
+          ∷ 0x3FF0_0000_1000_0000
+          ∷ 0x47EF_FFFF_F000_0000
+          ∷ [])));
+      said = replicate 7 1 ++ replicate 5 0;
+    }
     -- "no rows: slope 1, intercept 0, longest 0", without peptides and with one: no peptide carries the file
     ∷ record {
       given = alignment (oneFile 0 []) ++ alignment (oneFile 1 []);
       said = 0 ∷ 0 ∷ 0x3F80_0000 ∷ 0 ∷ 0 ∷ 0 ∷ 0 ∷ 0x3F80_0000 ∷ 0 ∷ 0 ∷ [];
     }
+    -- a slope and an intercept that are not finite give 1.0 and 0.0, and the flags are of these
+    ∷ record { given = exact (oneFile 1 []); said = 1 ∷ 1 ∷ 1 ∷ [] }
     -- how many carry it: one whose two rows have the times 10.0 and 5.0, and none where the peptide is dropped, since
     -- -3.0 over the longest time 0 is no normal number
     ∷ record { given = after (oneFile 1 (0x4120_0000 ∷ 0x40A0_0000 ∷ [])) .records .used; said = 1 ∷ [] }
@@ -238,6 +313,20 @@ examples =
     ∷ record {
       given = bits binary64 (cellsAt Retention (ascii "BJ") 0 1 ++ cellsAt Mobility (ascii "BJ") 0 1);
       said = whole (2 ∷ 2 ∷ []);
+    }
+    -- predictions of the logs 0.5, 0.1, a NaN, 1.1, which is clamped to 1.0, and -0.25, which is clamped to 0.0: 0.1 and
+    -- the NaN are counted
+    ∷ record {
+      given =
+          inexactLogs
+          (0x3FE0_0000_0000_0000
+          ∷ 0x3FB9_9999_9999_999A
+          ∷ aNaN
+          ∷ 0x3FF1_9999_9999_999A
+          ∷ 0xBFD0_0000_0000_0000
+          ∷ [])
+          ∷ [];
+      said = 2 ∷ [];
     }
     -- "left -1E-8, right 5.0: ridge 1E-8, solution 5.0"
     ∷ record { given = solution 1 (minusTiny ∷ []) (five ∷ []); said = 0 ∷ tiny ∷ five ∷ [] }

@@ -8,13 +8,23 @@ use held::VALUE;
 use held::VALUES;
 use held::WORKSPACE;
 use models::FitAnswer;
+use models::PredictAnswer;
+use models::PredictOutcome;
 use models::mobility_model;
 use models::retention_model;
 
-fn number(answer: FitAnswer) -> u64 {
+// A fit's answer as that of a prediction of no row.
+fn fitted_only(answer: FitAnswer) -> PredictAnswer {
     match answer {
-        FitAnswer::Fitted(outcome) => held::number(outcome),
-        FitAnswer::Refused(status) => status as u64,
+        FitAnswer::Fitted(fit) => PredictAnswer::Predicted(PredictOutcome { fit, inexact: 0 }),
+        FitAnswer::Refused(status) => PredictAnswer::Refused(status),
+    }
+}
+
+fn write_answer(answer: PredictAnswer) {
+    match answer {
+        PredictAnswer::Predicted(outcome) => held::write_outcome(outcome),
+        PredictAnswer::Refused(status) => vectors::write_token(status as u64),
     }
 }
 
@@ -31,7 +41,7 @@ fn retention(
     beta: &mut [f64],
     predicted: &mut [f32],
     error: &mut [f32],
-) -> FitAnswer {
+) -> PredictAnswer {
     let q = [0.0f32];
     let y = [0.5f32];
     if predicts {
@@ -50,7 +60,7 @@ fn retention(
             error,
         );
     }
-    retention_model::fit(
+    fitted_only(retention_model::fit(
         peptide,
         label,
         &q,
@@ -61,7 +71,7 @@ fn retention(
         logs,
         workspace,
         beta,
-    )
+    ))
 }
 
 // A call of mobility's `predict` or `fit`.
@@ -76,7 +86,7 @@ fn mobility(
     beta: &mut [f64],
     predicted: &mut [f32],
     error: &mut [f32],
-) -> FitAnswer {
+) -> PredictAnswer {
     let q = [0.0f32];
     let z = [1u8];
     let y = [0.5f32];
@@ -96,7 +106,7 @@ fn mobility(
             error,
         );
     }
-    mobility_model::fit(
+    fitted_only(mobility_model::fit(
         peptide,
         label,
         &q,
@@ -107,7 +117,7 @@ fn mobility(
         masses,
         workspace,
         beta,
-    )
+    ))
 }
 
 // A call of a model's `predict` or `fit`.
@@ -124,7 +134,7 @@ fn call(
     beta: &mut [f64],
     predicted: &mut [f32],
     error: &mut [f32],
-) -> FitAnswer {
+) -> PredictAnswer {
     match model {
         Model::Retention => retention(
             predicts,
@@ -190,7 +200,7 @@ fn fit(
         &mut predicted[..predictions],
         &mut error[..errors],
     );
-    vectors::write_token(number(answer));
+    write_answer(answer);
     held::write_workspace(&workspace);
     vectors::write_token(held::changed_model(0, &beta, &predicted, &error));
 }

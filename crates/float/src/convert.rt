@@ -5,11 +5,31 @@ ghost use mathlib.Core.Bool.{Bool, cond};
 ghost use lib.IntN.{pos};
 ghost use lib.Ieee.{binary32, binary64, ofInt, ofFields, toBits};
 ghost use lib.Ieee.Nearest.{closest};
-ghost use Rattle.float.specs.Convert.{narrowed, ceiling};
+ghost use Rattle.float.specs.Convert.{narrowed, isExact, ceiling};
 
-// Rust's `x as f32`: the nearest f32, of two as near the one with an even last digit. What rounds
-// to 2^128 or more is an infinity, a zero keeps its sign, and a NaN gives 7FC00000.
-pub fn narrow(x: f64) -> f32
+// An f64 as an f32, and whether nothing was lost: the two are equal, which a NaN never is.
+pub struct Narrowed {
+    pub value: f32,
+    pub exact: bool,
+}
+
+// Rust's `x as f32`, and `(x as f32) as f64 == x`. The nearest f32, of two as near the one with an
+// even last digit: what rounds to 2^128 or more is an infinity, a zero keeps its sign, and a NaN
+// gives 7FC00000.
+pub fn narrow(x: f64) -> Narrowed
+    ensures { λ r. ⌜ r .value ≡ narrowed x ⌝ }
+    ensures { λ r. ⌜ r .exact ≡ isExact x ⌝ }
+{
+    let value = nearest_f32(x);
+    let wide = widen(value);
+    Narrowed {
+        value,
+        exact: wide == x,
+    }
+}
+
+// The f32 of `narrow`.
+fn nearest_f32(x: f64) -> f32
     ensures { λ r. ⌜ r ≡ narrowed x ⌝ }
 {
     if x != x {

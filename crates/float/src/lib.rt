@@ -11,6 +11,7 @@ pub use bits::canonical32;
 pub use bits::canonical64;
 pub use bits::from_bits32;
 pub use bits::from_bits64;
+pub use convert::Narrowed;
 pub use convert::ceil_to_u32;
 pub use convert::narrow;
 pub use convert::u32_to_f32;

@@ -1,7 +1,8 @@
-// Functions that return a float under C names, for a test of the bits of a NaN in compiled code.
+// Functions that return a float under C names, for a test of the bits of a NaN in compiled code, and one that says
+// whether a narrowing was exact.
 ghost use mathlib.Core.Path.{_≡_};
 ghost use lib.Ieee.{binary32, binary64, ofBits};
-ghost use Rattle.float.specs.Convert.{narrowed};
+ghost use Rattle.float.specs.Convert.{narrowed, isExact};
 ghost use Rattle.float.specs.Value.{magnitude, minimum, clamped};
 ghost use Rattle.regression.specs.Regression.{dot};
 
@@ -23,7 +24,14 @@ pub extern "C" fn zk_canonical32(x: f32) -> f32
 pub extern "C" fn zk_narrow(x: f64) -> f32
     ensures { λ r. ⌜ r ≡ narrowed x ⌝ }
 {
-    float::narrow(x)
+    float::narrow(x).value
+}
+
+#[no_mangle]
+pub extern "C" fn zk_narrow_exact(x: f64) -> bool
+    ensures { λ r. ⌜ r ≡ isExact x ⌝ }
+{
+    float::narrow(x).exact
 }
 
 #[no_mangle]

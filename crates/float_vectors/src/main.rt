@@ -13,7 +13,7 @@ fn answer(r: Record) -> u64 {
     let x = float::from_bits64(a);
     let y = f32_of(a);
     match op {
-        1 => float::bits32(float::narrow(x)) as u64,
+        1 => float::bits32(float::narrow(x).value) as u64,
         2 => float::ceil_to_u32(y) as u64,
         3 => float::bits64(float::u32_to_f64(vectors::low32(a))),
         4 => float::bits32(float::u32_to_f32(vectors::low32(a))) as u64,
@@ -26,6 +26,7 @@ fn answer(r: Record) -> u64 {
         11 => float::bits64(x),
         12 => float::bits64(float::widen(y)),
         13 => float::is_finite32(y) as u64,
+        14 => float::narrow(x).exact as u64,
         _ => 0xffff_ffff_ffff_ffff,
     }
 }

@@ -1,6 +1,6 @@
 -- Laws of lists, for any elements: a table, a list made anew from one beside it, one written over another, two
--- zipped, and one element again and again.
-use mathlib.Core.Path.{_≡_, refl, sym, ap, _∙_}
+-- zipped, two with the same elements, and one element again and again.
+use mathlib.Core.Path.{_≡_, refl, sym, ap, ap₂, _∙_}
 use mathlib.Core.List.{List, [], _∷_, _++_, map, zip, zipWith, append-assoc, append-nil}
 use Prim.Native.Nat.{ℕ, zero, suc, _*_, _≤_, _<_, zero-le, suc-le-suc}
 use native.Mathlib.Nat.{le-of-suc-le-suc, not-suc-le-zero, zero-mul, suc-mul, add-comm}
@@ -214,6 +214,17 @@ module _ {A B : Type 0} where
       → zip (set xs k x) (set ys k y) ≡ set (zip xs ys) k (x, y)
   unfolding zip
   zip-set xs ys k x y = zipWith-set pair xs ys k x y
+
+-- ---- lists of one length with the same elements
+
+pub same-cells : {A : Type 0} (xs ys : List A) (d : A) → length xs ≡ length ys
+    → ((k : ℕ) → k < length xs → getD xs k d ≡ getD ys k d) → xs ≡ ys
+same-cells [] [] d l h = refl
+same-cells [] (y ∷ ys) d l h = absurd (omega arith)
+same-cells (x ∷ xs) [] d l h = absurd (omega arith)
+same-cells {A} (x ∷ xs) (y ∷ ys) d l h =
+    ap₂ (λ (z : A) (zs : List A). z ∷ zs) (h 0 (omega arith))
+    (same-cells xs ys d (omega arith) (λ k lt. h (suc k) (omega arith)))
 
 -- ---- one element again and again
 

@@ -14,7 +14,7 @@ use Rattle.params.specs.Slice.{change}
 use Rattle.float.specs.Number.{zero64}
 use Rattle.status.specs.Status.{accepted}
 use Rattle.status.proofs.Told.{if-accepted, if-refused}
-use Rattle.status.specs.Told.{toldFor}
+use Rattle.status.specs.Told.{ifAccepted, toldFor}
 use Rattle.status.proofs.Laws.{and-true}
 use Rattle.embedding.specs.Design.{orderOf}
 use Rattle.embedding.specs.declared.Model.{Model}
@@ -29,8 +29,12 @@ use Rattle.matrix.specs.Lists.{overwritten}
 use Rattle.matrix.proofs.Lists.{overwrite-part, zipWith-append, zipWith-none}
 use Rattle.models.specs.declared.FitAnswer.{FitAnswer}
 use Rattle.models.specs.declared.FitAnswer.the-variants.{Fitted, Refused}
-use Rattle.models.specs.Prediction.{isSolved, predictionOf, errorOf, predictions, errors}
+use Rattle.models.specs.declared.PredictOutcome.{PredictOutcome}
+use Rattle.models.specs.declared.PredictAnswer.{PredictAnswer}
+use Rattle.models.specs.declared.PredictAnswer.the-variants.{Predicted, Refused as Unpredicted}
+use Rattle.models.specs.Prediction.{isSolved, predictionOf, errorOf, predictions, errors, inexactIn, inexact}
 use Rattle.models.specs.Call.{PredictSlices, fitPart, answerOf, toldBy, predictRoom, fitStatus, predictStatus}
+use Rattle.models.specs.Call.{predictOutcome, predictAnswerOf, predictOutcomeTold, predictTold}
 use Rattle.models.specs.Call.{fitFilled, predictFilled, FittedWithin, PredictedWithin, FitCall, PredictCall}
 use Rattle.models.proofs.Writing.{length-predictions}
 
@@ -117,15 +121,22 @@ fitted-within model i k d s t r ek ed hk hd kept f =
 
 -- ---- the status
 
--- what the answer tells
-told-of : (status : ℕ) (fit : Fit) (r : FitAnswer) → r ≡ answerOf status fit
-    → toldBy r ≡ toldFor status (outcomeTold (fit .outcome))
-told-of status fit r e = ap toldBy e ∙ by-test (eqb status accepted)
+-- what the answer tells, by a function of the answer
+told-by : {A B : Type 0} (tell : A → B) (status : ℕ) (done refused : A)
+    → tell (ifAccepted status done refused) ≡ ifAccepted status (tell done) (tell refused)
+told-by tell status done refused = by-test (eqb status accepted)
   where
-    by-test : (b : Bool) → toldBy (cond b (Fitted (fit .outcome)) (Refused status))
-        ≡ cond b (toldBy (Fitted (fit .outcome))) (toldBy (Refused status))
+    by-test : (b : Bool) → tell (cond b done refused) ≡ cond b (tell done) (tell refused)
     by-test true = refl
     by-test false = refl
+
+told-of : (status : ℕ) (fit : Fit) (r : FitAnswer) → r ≡ answerOf status fit
+    → toldBy r ≡ toldFor status (outcomeTold (fit .outcome))
+told-of status fit r e = ap toldBy e ∙ told-by toldBy status (Fitted (fit .outcome)) (Refused status)
+
+predict-told : (status : ℕ) (p : PredictOutcome) (r : PredictAnswer) → r ≡ predictAnswerOf status p
+    → predictTold r ≡ toldFor status (predictOutcomeTold p)
+predict-told status p r e = ap predictTold e ∙ told-by predictTold status (Predicted p) (Unpredicted status)
 
 -- ---- a call of `fit`
 
@@ -152,44 +163,59 @@ module _ (model : Model) (i : Input) (s : FitSlices) where
 
 -- ---- a call of `predict`
 
--- what is written where the fit is solved, and where it is not
+-- what is written and counted where the fit is solved, and where it is not
 module _ (model : Model) (i : Input) (s t : FitSlices) (r : FitOutcome) (f : FittedWithin model i (change s t) r) where
   coefficients-is : t .coefficients ≡ overwritten (fitOfInput model i .coefficients) (s .coefficients)
   coefficients-is = ap (λ (x : FitSlices). x .coefficients) (f .slices)
 
+  same-test : isSolved (fitOfInput model i .outcome) ≡ isSolved r
+  same-test = sym (ap isSolved (f .outcome))
+
   module _ (e : isSolved r ≡ true) where
-    -- the predictions with coefficients beta
+    -- the predictions with coefficients beta, and their count
     abbrev predicted-with : List Float → List Float
     predicted-with beta = map (predictionOf model (i .table) beta) (queries (i .peptides) (i .charges))
 
+    abbrev counted-with : List Float → ℕ
+    counted-with beta = inexactIn model (i .table) beta (queries (i .peptides) (i .charges))
+
     predicted-all : predictions model i ≡ predicted-with (fitOfInput model i .coefficients)
-    predicted-all = rw (sym (ap isSolved (f .outcome)) ∙ e)
+    predicted-all = rw (same-test ∙ e)
 
-    module _ (d : ℕ) (ed : d ≡ orderOf model) (p₀ p₁ : List Float)
-        (p : p₁ ≡ overwritten (predicted-with (take d (t .coefficients))) p₀) where
-      pub solved-predictions : p₁ ≡ overwritten (predictions model i) p₀
-      solved-predictions =
-          let new : List Float = fitOfInput model i .coefficients in
-          let b : take d (t .coefficients) ≡ new =
-          ap (take d) coefficients-is ∙ take-at new _ d (f .long e ∙ sym ed) in
-          p
-          ∙ ap (λ (x : List Float). overwritten (predicted-with x) p₀) b
-          ∙ ap (λ (x : List Float). overwritten x p₀) (sym predicted-all)
+    counted-all : inexact model i ≡ counted-with (fitOfInput model i .coefficients)
+    counted-all = rw (same-test ∙ e)
 
-      pub solved-errors : (e₀ e₁ : List Float) → length (i .observed) ≡ length (i .peptides)
-          → e₁ ≡ overwritten (zipWith errorOf (i .observed) p₁) e₀
-          → e₁ ≡ overwritten (errors model i) e₀
-      solved-errors e₀ e₁ same er =
-          let n = length-predictions model (i .table) (fitOfInput model i .coefficients) (i .peptides) (i .charges) in
-          let m : length (predictions model i) ≡ length (i .peptides) = ap length predicted-all ∙ n in
-          let z : zipWith errorOf (i .observed) p₁ ≡ errors model i =
-          ap (zipWith errorOf (i .observed)) solved-predictions
-          ∙ zipWith-append errorOf (i .observed) (predictions model i) _ (omega arith) in
-          er ∙ ap (λ (x : List Float). overwritten x e₀) z
+    module _ (d : ℕ) (ed : d ≡ orderOf model) where
+      -- the coefficients that are lent
+      lent : take d (t .coefficients) ≡ fitOfInput model i .coefficients
+      lent = ap (take d) coefficients-is ∙ take-at (fitOfInput model i .coefficients) _ d (f .long e ∙ sym ed)
+
+      pub solved-count : (n : ℕ) → n ≡ counted-with (take d (t .coefficients)) → n ≡ inexact model i
+      solved-count n c = c ∙ ap counted-with lent ∙ sym counted-all
+
+      module _ (p₀ p₁ : List Float) (p : p₁ ≡ overwritten (predicted-with (take d (t .coefficients))) p₀) where
+        pub solved-predictions : p₁ ≡ overwritten (predictions model i) p₀
+        solved-predictions =
+            p ∙ ap (λ (x : List Float). overwritten x p₀) (ap predicted-with lent ∙ sym predicted-all)
+
+        pub solved-errors : (e₀ e₁ : List Float) → length (i .observed) ≡ length (i .peptides)
+            → e₁ ≡ overwritten (zipWith errorOf (i .observed) p₁) e₀
+            → e₁ ≡ overwritten (errors model i) e₀
+        solved-errors e₀ e₁ same er =
+            let new : List Float = fitOfInput model i .coefficients in
+            let n = length-predictions model (i .table) new (i .peptides) (i .charges) in
+            let m : length (predictions model i) ≡ length (i .peptides) = ap length predicted-all ∙ n in
+            let z : zipWith errorOf (i .observed) p₁ ≡ errors model i =
+            ap (zipWith errorOf (i .observed)) solved-predictions
+            ∙ zipWith-append errorOf (i .observed) (predictions model i) _ (omega arith) in
+            er ∙ ap (λ (x : List Float). overwritten x e₀) z
 
   module _ (e : isSolved r ≡ false) where
+    pub unsolved-count : 0 ≡ inexact model i
+    unsolved-count = rw (same-test ∙ e)
+
     none-predicted : predictions model i ≡ []
-    none-predicted = rw (sym (ap isSolved (f .outcome)) ∙ e)
+    none-predicted = rw (same-test ∙ e)
 
     pub unsolved-predictions : (p₀ : List Float) → p₀ ≡ overwritten (predictions model i) p₀
     unsolved-predictions p₀ = ap (λ (x : List Float). overwritten x p₀) (sym none-predicted)
@@ -200,40 +226,45 @@ module _ (model : Model) (i : Input) (s t : FitSlices) (r : FitOutcome) (f : Fit
         ap (zipWith errorOf (i .observed)) none-predicted ∙ zipWith-none errorOf (i .observed) in
         ap (λ (x : List Float). overwritten x e₀) (sym z)
 
--- the fit and the other outputs together
-pub predicted-within : (model : Model) (i : Input) (s t : PredictSlices) (r : FitOutcome)
-    → FittedWithin model i (change (fitPart s) (fitPart t)) r
+-- the fit, the count and the other outputs together
+pub predicted-within : (model : Model) (i : Input) (s t : PredictSlices) (r : PredictOutcome)
+    → FittedWithin model i (change (fitPart s) (fitPart t)) (r .fit)
+    → r .inexact ≡ inexact model i
     → t .outputs .predicted ≡ overwritten (predictions model i) (s .outputs .predicted)
     → t .outputs .error ≡ overwritten (errors model i) (s .outputs .error)
     → PredictedWithin model i (change s t) r
-predicted-within model i s t r f predicted-is error-is =
-    let beta-is = coefficients-is model i (fitPart s) (fitPart t) r f in
+predicted-within model i s t r f count-is predicted-is error-is =
+    let beta-is = coefficients-is model i (fitPart s) (fitPart t) (r .fit) f in
     record {
       fitted = f;
+      count = count-is;
       outputs = λ k. record { coefficients = beta-is k; predicted = predicted-is k; error = error-is k };
     }
 
 module _ (model : Model) (i : Input) (s : PredictSlices) where
   pub predict-refused : (status : ℕ) → status ≡ predictStatus model i s → (status ≡ accepted → ⊥)
-      → PredictCall model i (change s s) (Refused status)
+      → PredictCall model i (change s s) (Unpredicted status)
   predict-refused status e ne =
       let n : ℕ = predictStatus model i s in
       let h : n ≡ accepted → ⊥ = λ z. ne (e ∙ z) in
-      let a : Refused status ≡ answerOf n (fitOfInput model i) = ap Refused e ∙ sym (if-refused n _ _ h) in
-      record { answer = a; told = told-of n (fitOfInput model i) _ a; slices = sym (if-refused n _ _ h) }
+      let a : Unpredicted status ≡ predictAnswerOf n (predictOutcome model i) =
+      ap Unpredicted e ∙ sym (if-refused n _ _ h) in
+      record { answer = a; told = predict-told n (predictOutcome model i) _ a; slices = sym (if-refused n _ _ h) }
 
-  pub predict-accepted : (t : PredictSlices) (r : FitOutcome) → predictStatus model i s ≡ accepted
+  pub predict-accepted : (t : PredictSlices) (r : PredictOutcome) → predictStatus model i s ≡ accepted
       → PredictedWithin model i (change s t) r
-      → PredictCall model i (change s t) (Fitted r)
+      → PredictCall model i (change s t) (Predicted r)
   predict-accepted t r h f =
       let n : ℕ = predictStatus model i s in
-      let a : Fitted r ≡ answerOf n (fitOfInput model i) =
-      ap Fitted (f .fitted .outcome) ∙ sym (if-accepted n _ _ h) in
+      let outcome-is : r ≡ predictOutcome model i =
+      λ k. record { fit = f .fitted .outcome k; inexact = f .count k } in
+      let a : Predicted r ≡ predictAnswerOf n (predictOutcome model i) =
+      ap Predicted outcome-is ∙ sym (if-accepted n _ _ h) in
       let workspace-is = ap (λ (x : FitSlices). x .workspace) (f .fitted .slices) in
       let filled : t ≡ predictFilled model i s =
       λ k. record { workspace = workspace-is k; outputs = f .outputs k } in
       record {
         answer = a;
-        told = told-of n (fitOfInput model i) _ a;
+        told = predict-told n (predictOutcome model i) _ a;
         slices = filled ∙ sym (if-accepted n (predictFilled model i s) s h);
       }

@@ -2,6 +2,7 @@
 use mathlib.Core.Path.{_≡_}
 use mathlib.Core.Bool.{Bool, true, _&&_}
 use mathlib.Core.List.{List, []}
+use mathlib.Core.Option.{Option, none, some}
 use Prim.Native.Nat.{ℕ}
 use lib.Dec.{leb}
 use lib.IntN.{ℤ}
@@ -19,9 +20,12 @@ use Rattle.regression.specs.Workspace.{FitSlices, workspaceCells}
 use Rattle.regression.specs.declared.FitOutcome.{FitOutcome}
 use Rattle.model_fit.specs.Input.{Input, inputOf, statusBy, fitRoom}
 use Rattle.model_fit.specs.Samples.{fitOfInput}
-use Rattle.models.specs.Prediction.{isSolved, predictions, errors}
+use Rattle.models.specs.Prediction.{isSolved, predictions, errors, inexact}
 use Rattle.models.specs.declared.FitAnswer.{FitAnswer}
 use Rattle.models.specs.declared.FitAnswer.the-variants.{Fitted, Refused}
+use Rattle.models.specs.declared.PredictOutcome.{PredictOutcome}
+use Rattle.models.specs.declared.PredictAnswer.{PredictAnswer}
+use Rattle.models.specs.declared.PredictAnswer.the-variants.{Predicted, Refused as Unpredicted}
 
 -- a model's outputs
 pub record ModelOutputs : Type 0 where
@@ -85,6 +89,31 @@ abbrev pub toldBy : FitAnswer → Told Values
 toldBy (Fitted outcome) = outcomeTold outcome
 toldBy (Refused status) = only status
 
+-- of a prediction: its fit's outcome, and the count over all rows
+abbrev pub predictOutcome : Model → Input → PredictOutcome
+predictOutcome model i = record { fit = fitOfInput model i .outcome; inexact = inexact model i }
+
+abbrev pub predictAnswerOf : (status : ℕ) → PredictOutcome → PredictAnswer
+predictAnswerOf status p = ifAccepted status (Predicted p) (Unpredicted status)
+
+-- what each tells: the fit's values and the count
+pub record PredictValues : Type 0 where
+  pub fit : Values
+  pub inexact : ℕ
+
+abbrev pub counted : ℕ → Option Values → Option PredictValues
+counted k none = none
+counted k (some v) = some (record { fit = v; inexact = k })
+
+abbrev pub predictOutcomeTold : PredictOutcome → Told PredictValues
+predictOutcomeTold p =
+    let t = outcomeTold (p .fit) in
+    record { status = t .status; values = counted (p .inexact) (t .values) }
+
+abbrev pub predictTold : PredictAnswer → Told PredictValues
+predictTold (Predicted p) = predictOutcomeTold p
+predictTold (Unpredicted status) = only status
+
 -- ---- what an accepted call leaves; an output gets new cells, which are none where the fit is not solved
 
 -- the needed cells end as +0.0
@@ -140,9 +169,11 @@ pub record FittedWithin (model : Model) (i : Input) (s : Change FitSlices) (r : 
   -- a fit that is solved has a coefficient for each column
   pub long : isSolved r ≡ true → length (fitOfInput model i .coefficients) ≡ orderOf model
 
--- a prediction that passed the checks: the fit, and the outputs, of which a fit that is not solved leaves all
-pub record PredictedWithin (model : Model) (i : Input) (s : Change PredictSlices) (r : FitOutcome) : Type 0 where
-  pub fitted : FittedWithin model i (change (fitPart (s .entry)) (fitPart (s .exit))) r
+-- a prediction that passed the checks: the fit, the count, and the outputs, of which a fit that is not solved leaves
+-- all
+pub record PredictedWithin (model : Model) (i : Input) (s : Change PredictSlices) (r : PredictOutcome) : Type 0 where
+  pub fitted : FittedWithin model i (change (fitPart (s .entry)) (fitPart (s .exit))) (r .fit)
+  pub count : r .inexact ≡ inexact model i
   pub outputs : s .exit .outputs ≡ outputsFilled model i (s .entry .outputs)
 
 -- a call of `fit`; a refused one leaves both slices as they were
@@ -152,7 +183,7 @@ pub record FitCall (model : Model) (i : Input) (s : Change FitSlices) (r : FitAn
   pub slices : s .exit ≡ ifAccepted (fitStatus model i (s .entry)) (fitFilled model i (s .entry)) (s .entry)
 
 -- a call of `predict`
-pub record PredictCall (model : Model) (i : Input) (s : Change PredictSlices) (r : FitAnswer) : Type 0 where
-  pub answer : r ≡ answerOf (predictStatus model i (s .entry)) (fitOfInput model i)
-  pub told : toldBy r ≡ toldFor (predictStatus model i (s .entry)) (outcomeTold (fitOfInput model i .outcome))
+pub record PredictCall (model : Model) (i : Input) (s : Change PredictSlices) (r : PredictAnswer) : Type 0 where
+  pub answer : r ≡ predictAnswerOf (predictStatus model i (s .entry)) (predictOutcome model i)
+  pub told : predictTold r ≡ toldFor (predictStatus model i (s .entry)) (predictOutcomeTold (predictOutcome model i))
   pub slices : s .exit ≡ ifAccepted (predictStatus model i (s .entry)) (predictFilled model i (s .entry)) (s .entry)

@@ -1,11 +1,13 @@
 -- The predictions of a fitted model, and their errors. Definitions only.
-use mathlib.Core.Bool.{Bool, true, false, cond}
+use Prim.Native.Nat.{ℕ}
+use mathlib.Core.Bool.{Bool, true, false, not, cond}
 use mathlib.Core.List.{List, [], map, zipWith}
 use lib.Ieee.{Float, binary32, sub}
-use Rattle.float.specs.Convert.{narrowed}
+use Rattle.float.specs.Convert.{narrowed, isExact}
 use Rattle.float.specs.Value.{clamped, magnitude}
 use Rattle.float.specs.Number.{zero64, number}
 use Rattle.peptide.specs.Table.{Table}
+use Rattle.embedding.specs.Count.{howMany}
 use Rattle.embedding.specs.declared.Model.{Model}
 use Rattle.embedding.specs.declared.Model.the-variants.{Retention, Mobility}
 use Rattle.regression.specs.Regression.{dot}
@@ -19,9 +21,17 @@ abbrev pub largest : Model → Float
 largest Retention = number 1
 largest Mobility = number 2
 
--- the clamped prediction, narrowed to an f32
+-- the clamped prediction, an f64
+abbrev pub boundedOf : Model → Table → (beta : List Float) → Query → Float
+boundedOf model t beta q = clamped zero64 (largest model) (dot (designOf model t q) beta)
+
+-- narrowed to an f32
 abbrev pub predictionOf : Model → Table → (beta : List Float) → Query → Float
-predictionOf model t beta q = narrowed (clamped zero64 (largest model) (dot (designOf model t q) beta))
+predictionOf model t beta q = narrowed (boundedOf model t beta q)
+
+-- how many of these predictions narrowing changes: a NaN, which equals nothing, is among them
+abbrev pub inexactIn : Model → Table → (beta : List Float) → List Query → ℕ
+inexactIn model t beta qs = howMany (λ q. not (isExact (boundedOf model t beta q))) qs
 
 -- |observed - predicted|, in f32
 abbrev pub errorOf : (observed predicted : Float) → Float
@@ -40,6 +50,14 @@ predictions model i =
     cond (isSolved (fit .outcome))
     (map (predictionOf model (i .table) (fit .coefficients)) (queries (i .peptides) (i .charges)))
     []
+
+-- and how many of them narrowing changes: 0 where the fit is not solved
+abbrev pub inexact : Model → Input → ℕ
+inexact model i =
+    let fit = fitOfInput model i in
+    cond (isSolved (fit .outcome))
+    (inexactIn model (i .table) (fit .coefficients) (queries (i .peptides) (i .charges)))
+    0
 
 abbrev pub errors : Model → Input → List Float
 errors model i = zipWith errorOf (i .observed) (predictions model i)

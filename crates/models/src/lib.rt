@@ -12,3 +12,16 @@ pub enum FitAnswer {
     Fitted(FitOutcome),
     Refused(u8),
 }
+
+// The outcome of a prediction's fit, and how many rows' predictions lost something as they were narrowed to an f32, a
+// NaN among them: 0 where the fit is not solved.
+pub struct PredictOutcome {
+    pub fit: FitOutcome,
+    pub inexact: u32,
+}
+
+// What a prediction answers, as a fit does.
+pub enum PredictAnswer {
+    Predicted(PredictOutcome),
+    Refused(u8),
+}

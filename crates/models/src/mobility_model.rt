@@ -3,6 +3,7 @@ ghost use Rattle.embedding.specs.declared.Model.{Model};
 ghost use Rattle.regression.specs.Workspace.{fitSlices};
 ghost use Rattle.models.specs.Call.{mobilityInput, outputsOf, predictSlices, FitCall, PredictCall};
 use crate::FitAnswer;
+use crate::PredictAnswer;
 use crate::prediction;
 use embedding::Model;
 
@@ -43,7 +44,7 @@ pub fn fit(
 }
 
 // Fits as `fit` does and, where that is solved, writes each row's prediction, clamped to 0..2, into `predicted` and
-// |mobility - prediction| into `error`.
+// |mobility - prediction| into `error`. The answer says how many predictions narrowing changed.
 pub fn predict(
     peptide: &[u32],
     label: &[i32],
@@ -57,7 +58,7 @@ pub fn predict(
     beta: &mut [f64],
     predicted: &mut [f32],
     error: &mut [f32],
-) -> FitAnswer
+) -> PredictAnswer
     ensures { λ r. ⌜ PredictCall Model.Mobility
         (mobilityInput peptide label q charge mobility letters offsets masses)
         (predictSlices workspace (outputsOf beta predicted error))

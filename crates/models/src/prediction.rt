@@ -6,10 +6,11 @@ ghost use mathlib.Core.List.{map, zipWith};
 ghost use Prim.Native.Nat.{_≤_};
 ghost use lib.ListN.{length};
 ghost use Rattle.regression.specs.Workspace.{fitSlices};
+ghost use Rattle.status.specs.Limits.{maxRows};
 ghost use Rattle.model_fit.specs.Input.{inputAt, modelInput, tableAt, tableIn, queries, fitRoom};
 ghost use Rattle.matrix.specs.Lists.{overwritten};
 ghost use Rattle.model_fit.specs.Shared.{Numbered, Checked};
-ghost use Rattle.models.specs.Prediction.{largest, isSolved, predictionOf, errorOf};
+ghost use Rattle.models.specs.Prediction.{largest, isSolved, predictionOf, errorOf, inexactIn};
 ghost use Rattle.models.specs.Call.{
   outputsOf,
   predictAt,
@@ -22,6 +23,8 @@ ghost use Rattle.models.specs.Call.{
   PredictCall,
 };
 use crate::FitAnswer;
+use crate::PredictAnswer;
+use crate::PredictOutcome;
 use embedding::Model;
 use matrix::PeptideIx;
 use model_fit::checks::check;
@@ -43,7 +46,7 @@ fn largest(model: Model) -> f64
     }
 }
 
-// Writes each row's prediction into the first cells of `predicted`.
+// Writes each row's prediction into the first cells of `predicted`, and counts those that narrowing changed.
 pub(crate) fn write_predictions(
     model: Model,
     peptide: &[u32],
@@ -54,16 +57,19 @@ pub(crate) fn write_predictions(
     logs: &[f64],
     beta: &[f64],
     predicted: &mut [f32],
-)
+) -> u32
     requires { ⌜ Numbered (tableAt letters offsets masses logs) (now peptide) ⌝ }
-    requires { ⌜ length (now peptide) ≤ length (now predicted) ⌝ }
+    requires { ⌜ (length (now peptide) ≤ maxRows) × (length (now peptide) ≤ length (now predicted)) ⌝ }
     ensures { λ _. ⌜ now (predicted .exit) ≡ overwritten
         (map
         (predictionOf model (tableIn letters offsets masses logs) (now (beta .entry)))
         (queries (now (peptide .entry)) (now (charge .entry))))
         (now (predicted .entry)) ⌝ }
+    ensures { λ r. ⌜ r ≡ inexactIn model (tableIn letters offsets masses logs) (now (beta .entry))
+        (queries (now (peptide .entry)) (now (charge .entry))) ⌝ }
 {
     let hi = largest(model);
+    let mut inexact = 0u32;
     let mut row = [0.0f64; status::MAX_ORDER];
     for i in 0..peptide.len() {
         let z = charge_at(charge, i);
@@ -73,8 +79,11 @@ pub(crate) fn write_predictions(
         let log = log_at(logs, p);
         let mass = mass_at(masses, p);
         let x = predict_peptide(model, sequence, log, mass, z, beta, &mut row);
-        predicted[i] = float::narrow(float::clamp64(x, 0.0, hi));
+        let bounded = float::narrow(float::clamp64(x, 0.0, hi));
+        predicted[i] = bounded.value;
+        inexact += !bounded.exact as u32;
     }
+    inexact
 }
 
 // |observed - predicted|.
@@ -237,7 +246,7 @@ fn predict_accepted(
     beta: &mut [f64],
     predicted: &mut [f32],
     error: &mut [f32],
-) -> FitOutcome
+) -> PredictOutcome
     requires { ⌜ Checked (inputAt peptide label q charge observed letters offsets masses logs) ⌝ }
     requires { ⌜ predictRoomIn model
         (inputAt peptide label q charge observed letters offsets masses logs)
@@ -248,7 +257,7 @@ fn predict_accepted(
         (predictSlices workspace (outputsOf beta predicted error))
         r ⌝ }
 {
-    let outcome = fit_accepted(
+    let fit = fit_accepted(
         model,
         peptide,
         label,
@@ -262,22 +271,23 @@ fn predict_accepted(
         workspace,
         beta,
     );
-    if is_solved(outcome) {
-        let d = embedding::order(model);
-        write_predictions(
-            model,
-            peptide,
-            charge,
-            letters,
-            offsets,
-            masses,
-            logs,
-            &beta[..d],
-            predicted,
-        );
-        write_errors(observed, predicted, error);
+    if !is_solved(fit) {
+        return PredictOutcome { fit, inexact: 0 };
     }
-    outcome
+    let d = embedding::order(model);
+    let inexact = write_predictions(
+        model,
+        peptide,
+        charge,
+        letters,
+        offsets,
+        masses,
+        logs,
+        &beta[..d],
+        predicted,
+    );
+    write_errors(observed, predicted, error);
+    PredictOutcome { fit, inexact }
 }
 
 // Checks a call, fits the model and, where that is solved, writes predictions and errors.
@@ -296,7 +306,7 @@ pub(crate) fn predict(
     beta: &mut [f64],
     predicted: &mut [f32],
     error: &mut [f32],
-) -> FitAnswer
+) -> PredictAnswer
     ensures { λ r. ⌜ PredictCall model
         (modelInput peptide label q charge observed letters offsets masses logs)
         (predictSlices workspace (outputsOf beta predicted error))
@@ -324,9 +334,9 @@ pub(crate) fn predict(
         room,
     );
     if status != status::ACCEPTED {
-        return FitAnswer::Refused(status);
+        return PredictAnswer::Refused(status);
     }
-    FitAnswer::Fitted(predict_accepted(
+    PredictAnswer::Predicted(predict_accepted(
         model,
         peptide,
         label,

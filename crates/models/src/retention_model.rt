@@ -3,6 +3,7 @@ ghost use Rattle.embedding.specs.declared.Model.{Model};
 ghost use Rattle.regression.specs.Workspace.{fitSlices};
 ghost use Rattle.models.specs.Call.{retentionInput, outputsOf, predictSlices, FitCall, PredictCall};
 use crate::FitAnswer;
+use crate::PredictAnswer;
 use crate::prediction;
 use embedding::Model;
 
@@ -42,7 +43,7 @@ pub fn fit(
 }
 
 // Fits as `fit` does and, where that is solved, writes each row's prediction, clamped to 0..1, into `predicted` and
-// |aligned - prediction| into `error`.
+// |aligned - prediction| into `error`. The answer says how many predictions narrowing changed.
 pub fn predict(
     peptide: &[u32],
     label: &[i32],
@@ -56,7 +57,7 @@ pub fn predict(
     beta: &mut [f64],
     predicted: &mut [f32],
     error: &mut [f32],
-) -> FitAnswer
+) -> PredictAnswer
     ensures { λ r. ⌜ PredictCall Model.Retention
         (retentionInput peptide label q aligned letters offsets masses logs)
         (predictSlices workspace (outputsOf beta predicted error))

@@ -39,6 +39,9 @@ fn canonical(found: Found) -> Found
             slope: float::canonical32(a.slope),
             intercept: float::canonical32(a.intercept),
             used: a.used,
+            max_rt_exact: a.max_rt_exact,
+            slope_exact: a.slope_exact,
+            intercept_exact: a.intercept_exact,
         }),
         Found::Refused(status) => Found::Refused(status),
     }

@@ -2,6 +2,7 @@
 ghost use Prim.Native.Nat.{_≤_};
 use held::CELL;
 use held::COUNT;
+use held::FLAG;
 use held::VALUE;
 use held::VALUES;
 use held::WORKSPACE;
@@ -32,6 +33,9 @@ fn align(
     let mut slope = [VALUE; VALUES];
     let mut intercept = [VALUE; VALUES];
     let mut used = [COUNT; VALUES];
+    let mut max_rt_exact = [FLAG; VALUES];
+    let mut slope_exact = [FLAG; VALUES];
+    let mut intercept_exact = [FLAG; VALUES];
     let mut aligned = [VALUE; VALUES];
     let answer = retention_alignment::global_alignment(
         file,
@@ -46,11 +50,22 @@ fn align(
         &mut slope,
         &mut intercept,
         &mut used,
+        &mut max_rt_exact,
+        &mut slope_exact,
+        &mut intercept_exact,
         &mut aligned,
     );
     vectors::write_token(number(answer));
     held::write_workspace(&workspace);
-    let records = held::changed_records(&max_rt, &slope, &intercept, &used);
+    let records = held::changed_records(
+        &max_rt,
+        &slope,
+        &intercept,
+        &used,
+        &max_rt_exact,
+        &slope_exact,
+        &intercept_exact,
+    );
     vectors::write_token(held::changed32(records, &aligned));
 }
 

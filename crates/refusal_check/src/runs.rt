@@ -4,6 +4,7 @@ ghost use Prim.Native.Nat.{_≤_};
 use held::CELL;
 use held::CELLS;
 use held::COUNT;
+use held::FLAG;
 use held::VALUE;
 use held::VALUES;
 use held::WORKSPACE;
@@ -17,8 +18,8 @@ fn write_numbers(answer: RunAnswer) {
             mobility,
         } => {
             vectors::write_token(0);
-            vectors::write_token(held::number(retention));
-            vectors::write_token(held::number(mobility));
+            held::write_outcome(retention);
+            held::write_outcome(mobility);
         }
     }
 }
@@ -48,6 +49,9 @@ fn run(
     let mut slope = [VALUE; VALUES];
     let mut intercept = [VALUE; VALUES];
     let mut used = [COUNT; VALUES];
+    let mut max_rt_exact = [FLAG; VALUES];
+    let mut slope_exact = [FLAG; VALUES];
+    let mut intercept_exact = [FLAG; VALUES];
     let mut aligned = [VALUE; VALUES];
     let mut retention_beta = [CELL; CELLS];
     let mut retention_predicted = [VALUE; VALUES];
@@ -73,6 +77,9 @@ fn run(
         &mut slope,
         &mut intercept,
         &mut used,
+        &mut max_rt_exact,
+        &mut slope_exact,
+        &mut intercept_exact,
         &mut aligned,
         &mut retention_beta,
         &mut retention_predicted,
@@ -83,7 +90,15 @@ fn run(
     );
     write_numbers(answer);
     held::write_workspace(&workspace);
-    let records = held::changed_records(&max_rt, &slope, &intercept, &used);
+    let records = held::changed_records(
+        &max_rt,
+        &slope,
+        &intercept,
+        &used,
+        &max_rt_exact,
+        &slope_exact,
+        &intercept_exact,
+    );
     let times = held::changed32(records, &aligned);
     let n = held::changed_model(
         times,

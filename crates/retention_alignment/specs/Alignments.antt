@@ -1,6 +1,7 @@
 -- The files' records from the files' longest times and the training rows, and a row's aligned time from the records.
 -- Definitions only.
 use Prim.Native.Nat.{ℕ}
+use mathlib.Core.Bool.{false}
 use mathlib.Core.List.{List}
 use lib.ListN.{getD}
 use lib.Ieee.{Float, nan, binary32, add, mul, div, ofBits}
@@ -23,7 +24,15 @@ alignedBy a t = onLine (a .«max_rt») (a .slope) (a .intercept) t
 -- what stands for a file that has no record: no accepted row has such a file
 abbrev pub noAlignment : Alignment
 noAlignment =
-    record { «max_rt» = ofBits binary32 0; slope = ofBits binary32 0; intercept = ofBits binary32 0; used = 0 }
+    record {
+      «max_rt» = ofBits binary32 0;
+      slope = ofBits binary32 0;
+      intercept = ofBits binary32 0;
+      used = 0;
+      «max_rt_exact» = false;
+      «slope_exact» = false;
+      «intercept_exact» = false;
+    }
 
 -- a row's aligned time: by its file's record
 unfoldable pub aligned : List Alignment → Obs → Float

@@ -137,14 +137,21 @@ fn align(
     slope: &mut [f32],
     intercept: &mut [f32],
     used: &mut [u32],
+    max_rt_exact: &mut [bool],
+    slope_exact: &mut [bool],
+    intercept_exact: &mut [bool],
     aligned: &mut [f32],
 )
     requires { ⌜ Checked
         (inputAt file peptide label q rt files peptides)
-        (slicesAt cells (fileColumnsAt «max_rt» slope intercept used) aligned) ⌝ }
+        (slicesAt cells
+        (fileColumnsAt «max_rt» slope intercept used «max_rt_exact» «slope_exact» «intercept_exact»)
+        aligned) ⌝ }
     ensures { λ _. ⌜ Written
         (inputOf file peptide label q rt files peptides)
-        (slicesOf cells (fileColumnsOf «max_rt» slope intercept used) aligned .exit) ⌝ }
+        (slicesOf cells
+        (fileColumnsOf «max_rt» slope intercept used «max_rt_exact» «slope_exact» «intercept_exact»)
+        aligned .exit) ⌝ }
 {
     let mut max = [0u32; MAX_FILES];
     times::max_rt_by_file(file, rt, &mut max[..files]);
@@ -157,14 +164,17 @@ fn align(
         slope,
         intercept,
         used,
+        max_rt_exact,
+        slope_exact,
+        intercept_exact,
     );
     align_rows(file, rt, max_rt, slope, intercept, aligned);
     matrix::zeros(cells);
 }
 
-// The alignment. Of the workspace it needs peptides × files cells, of the outputs max_rt, slope, intercept and used
-// one for each file, and of aligned one for each row; what is longer keeps its rest, and a refused call leaves every
-// slice as it was.
+// The alignment. Of the workspace it needs peptides × files cells, of each field of the files' records one for each
+// file, and of aligned one for each row; what is longer keeps its rest, and a refused call leaves every slice as it
+// was.
 pub fn global_alignment(
     file: &[u32],
     peptide: &[u32],
@@ -178,11 +188,16 @@ pub fn global_alignment(
     slope: &mut [f32],
     intercept: &mut [f32],
     used: &mut [u32],
+    max_rt_exact: &mut [bool],
+    slope_exact: &mut [bool],
+    intercept_exact: &mut [bool],
     aligned: &mut [f32],
 ) -> AlignAnswer
     ensures { λ r. ⌜ Aligned
         (inputOf file peptide label q rt files peptides)
-        (slicesOf workspace (fileColumnsOf «max_rt» slope intercept used) aligned)
+        (slicesOf workspace
+        (fileColumnsOf «max_rt» slope intercept used «max_rt_exact» «slope_exact» «intercept_exact»)
+        aligned)
         r ⌝ }
 {
     let records = FileRoom {
@@ -190,6 +205,9 @@ pub fn global_alignment(
         slope: slope.len(),
         intercept: intercept.len(),
         used: used.len(),
+        max_rt_exact: max_rt_exact.len(),
+        slope_exact: slope_exact.len(),
+        intercept_exact: intercept_exact.len(),
     };
     let room = Room {
         workspace: workspace.len(),
@@ -215,6 +233,9 @@ pub fn global_alignment(
         &mut slope[..files],
         &mut intercept[..files],
         &mut used[..files],
+        &mut max_rt_exact[..files],
+        &mut slope_exact[..files],
+        &mut intercept_exact[..files],
         &mut aligned[..rows],
     );
     AlignAnswer::Accepted

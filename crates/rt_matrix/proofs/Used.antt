@@ -8,8 +8,8 @@ use Prim.Native.Nat.{ℕ, suc, _≤_, _<_}
 use native.Mathlib.Decide.{decLt}
 use native.Mathlib.Omega.{arith}
 use lib.ListN.{length, getD, length-append, length-map, List·getD-eq-default}
-use lib.Ieee.{Float, binary32, binary64, sub, mul, div, ofInt, ofBits, round}
-use Rattle.float.specs.Convert.{narrowed}
+use lib.Ieee.{Float, binary32, binary64, sub, mul, div, eq, ofInt, ofBits, round}
+use Rattle.float.specs.Convert.{narrowed, isExact}
 use Rattle.float.specs.Number.{number}
 use Rattle.float.specs.Value.{isFinite, isNormal}
 use Rattle.matrix.specs.Lists.{tabulate}
@@ -72,12 +72,20 @@ used-few ms rows f = go (decLt f (length ms))
           ap (λ (a : Alignment). a .used) (List·getD-eq-default (tabulate (length ms) at) noRecord {n = f} past),
         )
 
--- a file that no peptide carries: slope 1, intercept 0
+-- a file that no peptide carries: slope 1, intercept 0, which an f32 holds
 abbrev pub uncarried : ℕ → Alignment
 uncarried m =
-    record { «max_rt» = narrowed (number m); slope = ofBits binary32 0x3f80_0000; intercept = ofBits binary32 0; used = 0 }
+    record {
+      «max_rt» = narrowed (number m);
+      slope = ofBits binary32 0x3f80_0000;
+      intercept = ofBits binary32 0;
+      used = 0;
+      «max_rt_exact» = isExact (number m);
+      «slope_exact» = true;
+      «intercept_exact» = true;
+    }
 
 pub unused-line : (m : ℕ) (ps : List Point) → line m ps .used ≡ 0 → line m ps ≡ uncarried m
-unfolding line lineOf finiteOr isFinite narrowed sub mul div ofInt ofBits round
+unfolding line lineOf finiteOr isFinite narrowed sub mul div eq ofInt ofBits round
 unused-line m [] h = refl
 unused-line m (p ∷ ps) h = absurd (omega (arith, h))

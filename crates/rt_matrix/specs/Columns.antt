@@ -17,20 +17,35 @@ pub record FileColumns : Type 0 where
   pub slope : List Float
   pub intercept : List Float
   pub used : List ℕ
+  pub maxRtExact : List Bool
+  pub slopeExact : List Bool
+  pub interceptExact : List Bool
 
 -- ---- as a function's parameters hold them
 
 -- in a `requires`
-abbrev pub fileColumnsAt : (maxRt slope intercept : Held Float) (used : Held ℕ) → FileColumns
-fileColumnsAt maxRt slope intercept used =
-    record { maxRt = now maxRt; slope = now slope; intercept = now intercept; used = now used }
+abbrev pub fileColumnsAt : (maxRt slope intercept : Held Float) (used : Held ℕ)
+    (maxRtExact slopeExact interceptExact : Held Bool) → FileColumns
+fileColumnsAt maxRt slope intercept used maxRtExact slopeExact interceptExact =
+    record {
+      maxRt = now maxRt;
+      slope = now slope;
+      intercept = now intercept;
+      used = now used;
+      maxRtExact = now maxRtExact;
+      slopeExact = now slopeExact;
+      interceptExact = now interceptExact;
+    }
 
 -- in an `ensures`
-abbrev pub fileColumnsOf : (maxRt slope intercept : Slice Float) (used : Slice ℕ) → Change FileColumns
-fileColumnsOf maxRt slope intercept used =
+abbrev pub fileColumnsOf : (maxRt slope intercept : Slice Float) (used : Slice ℕ)
+    (maxRtExact slopeExact interceptExact : Slice Bool) → Change FileColumns
+fileColumnsOf maxRt slope intercept used maxRtExact slopeExact interceptExact =
     change
-    (fileColumnsAt (maxRt .entry) (slope .entry) (intercept .entry) (used .entry))
-    (fileColumnsAt (maxRt .exit) (slope .exit) (intercept .exit) (used .exit))
+    (fileColumnsAt (maxRt .entry) (slope .entry) (intercept .entry) (used .entry)
+    (maxRtExact .entry) (slopeExact .entry) (interceptExact .entry))
+    (fileColumnsAt (maxRt .exit) (slope .exit) (intercept .exit) (used .exit)
+    (maxRtExact .exit) (slopeExact .exit) (interceptExact .exit))
 
 -- ---- columns and records
 
@@ -42,15 +57,30 @@ columnsOf records =
       slope = map (λ (a : Alignment). a .slope) records;
       intercept = map (λ (a : Alignment). a .intercept) records;
       used = map (λ (a : Alignment). a .used) records;
+      maxRtExact = map (λ (a : Alignment). a .«max_rt_exact») records;
+      slopeExact = map (λ (a : Alignment). a .«slope_exact») records;
+      interceptExact = map (λ (a : Alignment). a .«intercept_exact») records;
     }
 
--- the record of a longest time with a slope and of an intercept with a count
-abbrev pub recordBy : Float × Float → Float × ℕ → Alignment
-recordBy p q = record { «max_rt» = p .0; slope = p .1; intercept = q .0; used = q .1 }
+-- the record of its numbers, a longest time with a slope and an intercept with a count, and of its three flags
+abbrev pub recordBy : (Float × Float) × (Float × ℕ) → (Bool × Bool) × Bool → Alignment
+recordBy p e =
+    record {
+      «max_rt» = p .0 .0;
+      slope = p .0 .1;
+      intercept = p .1 .0;
+      used = p .1 .1;
+      «max_rt_exact» = e .0 .0;
+      «slope_exact» = e .0 .1;
+      «intercept_exact» = e .1;
+    }
 
 -- the records whose fields are these columns
 abbrev pub recordsOf : FileColumns → List Alignment
-recordsOf c = zipWith recordBy (zip (c .maxRt) (c .slope)) (zip (c .intercept) (c .used))
+recordsOf c =
+    zipWith recordBy
+    (zip (zip (c .maxRt) (c .slope)) (zip (c .intercept) (c .used)))
+    (zip (zip (c .maxRtExact) (c .slopeExact)) (c .interceptExact))
 
 -- ---- column by column
 
@@ -62,6 +92,9 @@ writtenOver new old =
       slope = overwritten (new .slope) (old .slope);
       intercept = overwritten (new .intercept) (old .intercept);
       used = overwritten (new .used) (old .used);
+      maxRtExact = overwritten (new .maxRtExact) (old .maxRtExact);
+      slopeExact = overwritten (new .slopeExact) (old .slopeExact);
+      interceptExact = overwritten (new .interceptExact) (old .interceptExact);
     }
 
 -- the first n cells
@@ -72,6 +105,9 @@ firstOf n c =
       slope = take n (c .slope);
       intercept = take n (c .intercept);
       used = take n (c .used);
+      maxRtExact = take n (c .maxRtExact);
+      slopeExact = take n (c .slopeExact);
+      interceptExact = take n (c .interceptExact);
     }
 
 -- cells in front of what is left after the first n
@@ -82,6 +118,9 @@ inFront n part whole =
       slope = part .slope ++ drop n (whole .slope);
       intercept = part .intercept ++ drop n (whole .intercept);
       used = part .used ++ drop n (whole .used);
+      maxRtExact = part .maxRtExact ++ drop n (whole .maxRtExact);
+      slopeExact = part .slopeExact ++ drop n (whole .slopeExact);
+      interceptExact = part .interceptExact ++ drop n (whole .interceptExact);
     }
 
 -- ---- lengths
@@ -92,6 +131,9 @@ pub record EachOf (n : ℕ) (c : FileColumns) : Type 0 where
   pub slope : length (c .slope) ≡ n
   pub intercept : length (c .intercept) ≡ n
   pub used : length (c .used) ≡ n
+  pub maxRtExact : length (c .maxRtExact) ≡ n
+  pub slopeExact : length (c .slopeExact) ≡ n
+  pub interceptExact : length (c .interceptExact) ≡ n
 
 -- n cells at least
 pub record EachFrom (n : ℕ) (c : FileColumns) : Type 0 where
@@ -99,6 +141,9 @@ pub record EachFrom (n : ℕ) (c : FileColumns) : Type 0 where
   pub slope : n ≤ length (c .slope)
   pub intercept : n ≤ length (c .intercept)
   pub used : n ≤ length (c .used)
+  pub maxRtExact : n ≤ length (c .maxRtExact)
+  pub slopeExact : n ≤ length (c .slopeExact)
+  pub interceptExact : n ≤ length (c .interceptExact)
 
 -- the lengths
 abbrev pub fileRoom : FileColumns → FileRoom
@@ -108,8 +153,18 @@ fileRoom c =
       slope = length (c .slope);
       intercept = length (c .intercept);
       used = length (c .used);
+      «max_rt_exact» = length (c .maxRtExact);
+      «slope_exact» = length (c .slopeExact);
+      «intercept_exact» = length (c .interceptExact);
     }
 
 -- each is n at least: check 3 of the files' records
 abbrev pub eachLong : ℕ → FileRoom → Bool
-eachLong n room = leb n (room .«max_rt») && leb n (room .slope) && leb n (room .intercept) && leb n (room .used)
+eachLong n room =
+    leb n (room .«max_rt»)
+    && leb n (room .slope)
+    && leb n (room .intercept)
+    && leb n (room .used)
+    && leb n (room .«max_rt_exact»)
+    && leb n (room .«slope_exact»)
+    && leb n (room .«intercept_exact»)

@@ -5,7 +5,7 @@ use mathlib.Core.List.{List, [], _∷_, _++_, map, zipWith}
 use mathlib.Core.Option.{Option, none, some}
 use lib.ListN.{length, getD}
 use lib.Ieee.{Float, binary64, sub, mul, div}
-use Rattle.float.specs.Convert.{narrowed}
+use Rattle.float.specs.Convert.{narrowed, isExact}
 use Rattle.float.specs.Value.{isFinite, isNormal}
 use Rattle.float.specs.Number.{zero64, one64, tiny64, number, sumFrom}
 use Rattle.matrix.specs.Lists.{tabulate}
@@ -77,7 +77,7 @@ unfoldable pub finiteOr : Float → Float → Float
 finiteOr d x = cond (isFinite x) x d
 
 -- The record of a file with the longest time m, from the sums over its n points, one for each kept peptide that has a
--- time there. The intercept goes by the slope as it was worked out.
+-- time there. The intercept goes by the slope as it was worked out; the flags by the numbers that are narrowed.
 unfoldable pub lineOf : ℕ → ℕ → Float → Float → Float → Float → Alignment
 lineOf m n dot sumX sumY sx2 =
     let xMean = div binary64 sumX (number n) in
@@ -89,6 +89,9 @@ lineOf m n dot sumX sumY sx2 =
       slope = narrowed (finiteOr one64 slope);
       intercept = narrowed (finiteOr zero64 intercept);
       used = n;
+      «max_rt_exact» = isExact (number m);
+      «slope_exact» = isExact (finiteOr one64 slope);
+      «intercept_exact» = isExact (finiteOr zero64 intercept);
     }
 
 -- the record of a file with the longest time m, from its points

@@ -18,14 +18,17 @@ pub use mean::ABSENT;
 use status::MAX_FILES;
 use sums::Sums;
 
-// A file's record: its longest time, its line, and how many kept peptides carry the line. Hosts pass lists of it, hence
-// the layout of C.
+// A file's record: its longest time, its line, how many kept peptides carry the line, and whether each of the three
+// f32 equals the f64 that it was narrowed from. Hosts pass lists of it, hence the layout of C.
 #[repr(C)]
 pub struct Alignment {
     pub max_rt: f32,
     pub slope: f32,
     pub intercept: f32,
     pub used: u32,
+    pub max_rt_exact: bool,
+    pub slope_exact: bool,
+    pub intercept_exact: bool,
 }
 
 // The lengths of the columns that hold the files' records.
@@ -34,6 +37,9 @@ pub struct FileRoom {
     pub slope: usize,
     pub intercept: usize,
     pub used: usize,
+    pub max_rt_exact: usize,
+    pub slope_exact: usize,
+    pub intercept_exact: usize,
 }
 
 // Whether each of the columns of these lengths has a cell for each file.
@@ -44,6 +50,9 @@ pub fn columns_long(files: usize, room: FileRoom) -> bool
         & (files <= room.slope)
         & (files <= room.intercept)
         & (files <= room.used)
+        & (files <= room.max_rt_exact)
+        & (files <= room.slope_exact)
+        & (files <= room.intercept_exact)
 }
 
 // x, or d where x is not finite.
@@ -66,12 +75,18 @@ fn fit_line(max: u32, s: Sums, sx2: f64) -> Alignment
     let y_mean = s.sum_y / n;
     let raw = (s.dot - n * x_mean * y_mean) / sx2;
     let slope = finite_or(raw, 1.0);
-    let intercept = y_mean - raw * x_mean;
+    let intercept = finite_or(y_mean - raw * x_mean, 0.0);
+    let max_rt = float::narrow(float::u32_to_f64(max));
+    let narrow_slope = float::narrow(slope);
+    let narrow_intercept = float::narrow(intercept);
     Alignment {
-        max_rt: float::narrow(float::u32_to_f64(max)),
-        slope: float::narrow(slope),
-        intercept: float::narrow(finite_or(intercept, 0.0)),
+        max_rt: max_rt.value,
+        slope: narrow_slope.value,
+        intercept: narrow_intercept.value,
         used: s.len,
+        max_rt_exact: max_rt.exact,
+        slope_exact: narrow_slope.exact,
+        intercept_exact: narrow_intercept.exact,
     }
 }
 
@@ -87,11 +102,16 @@ fn store_alignments(
     slope: &mut [f32],
     intercept: &mut [f32],
     used: &mut [u32],
+    max_rt_exact: &mut [bool],
+    slope_exact: &mut [bool],
+    intercept_exact: &mut [bool],
 )
     requires { ⌜ SizedAt (length (now max)) len dot «sum_x» «sum_y»
         × (length (now sx2) ≡ length (now max))
-        × EachOf (length (now max)) (fileColumnsAt «max_rt» slope intercept used) ⌝ }
-    ensures { λ _. ⌜ recordsOf (fileColumnsOf «max_rt» slope intercept used .exit)
+        × EachOf (length (now max)) (fileColumnsAt
+        «max_rt» slope intercept used «max_rt_exact» «slope_exact» «intercept_exact») ⌝ }
+    ensures { λ _. ⌜ recordsOf (fileColumnsOf
+        «max_rt» slope intercept used «max_rt_exact» «slope_exact» «intercept_exact» .exit)
         ≡ recordsFrom (now (max .entry)) (sumsIn len dot «sum_x» «sum_y» .entry) (now (sx2 .entry)) ⌝ }
 {
     let mut f = 0usize;
@@ -110,6 +130,9 @@ fn store_alignments(
         slope[f] = a.slope;
         intercept[f] = a.intercept;
         used[f] = a.used;
+        max_rt_exact[f] = a.max_rt_exact;
+        slope_exact[f] = a.slope_exact;
+        intercept_exact[f] = a.intercept_exact;
         f += 1;
     }
 }
@@ -130,6 +153,9 @@ fn fit_columns(
     slope: &mut [f32],
     intercept: &mut [f32],
     used: &mut [u32],
+    max_rt_exact: &mut [bool],
+    slope_exact: &mut [bool],
+    intercept_exact: &mut [bool],
 )
     requires { ⌜ Fresh
         (length (now max))
@@ -142,8 +168,10 @@ fn fit_columns(
     requires { ⌜ (length (now cells) ≡ peptides * length (now max))
         × (peptides < 2 ^ 32)
         × (length (now max) < 2 ^ 32)
-        × EachOf (length (now max)) (fileColumnsAt «max_rt» slope intercept used) ⌝ }
-    ensures { λ _. ⌜ recordsOf (fileColumnsOf «max_rt» slope intercept used .exit)
+        × EachOf (length (now max)) (fileColumnsAt
+        «max_rt» slope intercept used «max_rt_exact» «slope_exact» «intercept_exact») ⌝ }
+    ensures { λ _. ⌜ recordsOf (fileColumnsOf
+        «max_rt» slope intercept used «max_rt_exact» «slope_exact» «intercept_exact» .exit)
         ≡ linesFrom (now (max .entry)) peptides (now (cells .entry)) ⌝ }
 {
     sums::add_peptides(cells, max, peptides, len, dot, sum_x, sum_y);
@@ -160,6 +188,9 @@ fn fit_columns(
         slope,
         intercept,
         used,
+        max_rt_exact,
+        slope_exact,
+        intercept_exact,
     );
 }
 
@@ -173,12 +204,17 @@ pub fn fit_lines(
     slope: &mut [f32],
     intercept: &mut [f32],
     used: &mut [u32],
+    max_rt_exact: &mut [bool],
+    slope_exact: &mut [bool],
+    intercept_exact: &mut [bool],
 )
     requires { ⌜ (length (now cells) ≡ peptides * length (now max))
         × (peptides < 2 ^ 32)
         × (length (now max) ≤ maxFiles)
-        × EachOf (length (now max)) (fileColumnsAt «max_rt» slope intercept used) ⌝ }
-    ensures { λ _. ⌜ recordsOf (fileColumnsOf «max_rt» slope intercept used .exit)
+        × EachOf (length (now max)) (fileColumnsAt
+        «max_rt» slope intercept used «max_rt_exact» «slope_exact» «intercept_exact») ⌝ }
+    ensures { λ _. ⌜ recordsOf (fileColumnsOf
+        «max_rt» slope intercept used «max_rt_exact» «slope_exact» «intercept_exact» .exit)
         ≡ linesFrom (now (max .entry)) peptides (now (cells .entry)) ⌝ }
 {
     let files = max.len();
@@ -202,5 +238,8 @@ pub fn fit_lines(
         slope,
         intercept,
         used,
+        max_rt_exact,
+        slope_exact,
+        intercept_exact,
     );
 }

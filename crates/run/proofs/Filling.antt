@@ -25,18 +25,19 @@ use Rattle.regression.specs.Regression.{Fit, fitOf}
 use Rattle.regression.specs.Workspace.{workspaceCells}
 use Rattle.model_fit.specs.Input.{Query, queries, columnsAgree as modelColumns}
 use Rattle.model_fit.specs.Samples.{fitOfInput}
-use Rattle.models.specs.Prediction.{predictions, errors, errorOf, isSolved, predictionOf}
+use Rattle.models.specs.Prediction.{predictions, errors, errorOf, isSolved, predictionOf, inexact, inexactIn}
 use Rattle.models.specs.Call.{PredictSlices, PredictCall, predictStatus}
-use Rattle.models.specs.declared.FitAnswer.{FitAnswer}
+use Rattle.models.specs.declared.PredictAnswer.{PredictAnswer}
 use Rattle.run.specs.Fitted.{RowOutcome, ofRetention, ofMobility, rowQuery, target, fitted, outcome}
 use Rattle.run.specs.Call.{modelRoom, roomOf}
 use Rattle.run.specs.Call.{Input, Slices, rows, peptides, fittedBy, outcomes, errorsOf}
+use Rattle.run.specs.Call.{inexactOf, predictOutcomeOf}
 use Rattle.run.specs.Call.{outcomeOf, answerOf, toldBy, filled, Filled, slicesAfter, RunCall, status}
 use Rattle.run.specs.Parts.{alignInput, retentionInput, mobilityInput}
 use Rattle.run.specs.declared.RunAnswer.{RunAnswer}
 use Rattle.run.specs.declared.RunAnswer.the-variants.{Ran, Refused}
 use Rattle.run.proofs.Rows.{retention-queries, mobility-queries, samples-of, mobility-samples}
-use Rattle.run.proofs.Rows.{mobility-predictions, predictionsFor, predictions-written, errors-written}
+use Rattle.run.proofs.Rows.{mobility-predictions, mobility-counts, predictionsFor, predictions-written, errors-written}
 use Rattle.run.proofs.Accepted.{ColumnsIn, Passed, align-accepts, model-accepts, model-room}
 use Rattle.run.proofs.Parts.{fields, marks, targets, AlignPart, align-part, ModelPart, model-part}
 
@@ -131,13 +132,23 @@ module _ (i : Input) (k : ColumnsIn i) where
         ∙ ap (λ (x : List Float). zipWith errorOf x predicted) o
         ∙ errors-written ofRetention (i .table) (fittedBy i) (rows i)
 
+    retention-inexact : inexact Retention (retentionInput i observed) ≡ inexactOf ofRetention i
+    retention-inexact =
+        let beta = fittedBy i .retention .coefficients in
+        let solved = isSolved (fittedBy i .retention .outcome) in
+        ap (λ (x : Fit).
+        cond (isSolved (x .outcome)) (inexactIn Retention (i .table) (x .coefficients) (queries (i .peptide) [])) 0)
+        retention-fit
+        ∙ ap (λ (x : List Query). cond solved (inexactIn Retention (i .table) beta x) 0) queries-of-retention
+
     -- an accepted call on such times
-    pub retention-part : (s t : PredictSlices) (r : FitAnswer)
+    pub retention-part : (s t : PredictSlices) (r : PredictAnswer)
         → predictStatus Retention (retentionInput i observed) s ≡ accepted
         → PredictCall Retention (retentionInput i observed) (change s t) r → ModelPart ofRetention i s t r
     retention-part s t r accept c =
         model-part ofRetention i (retentionInput i observed) s t r accept retention-fit
-        (retention-predictions ∙ predictions-written ofRetention (i .table) (fittedBy i) (rows i)) retention-errors c
+        (retention-predictions ∙ predictions-written ofRetention (i .table) (fittedBy i) (rows i))
+        retention-errors retention-inexact c
 
   mobility-fit : fitOfInput Mobility (mobilityInput i) ≡ fittedBy i .mobility
   unfolding fitted
@@ -171,12 +182,25 @@ module _ (i : Input) (k : ColumnsIn i) where
       ∙ ap (λ (x : List Float). zipWith errorOf x predicted) (sym (fields i k .mobilities-are))
       ∙ errors-written ofMobility (i .table) (fittedBy i) (rows i)
 
-  pub mobility-part : (s t : PredictSlices) (r : FitAnswer)
+  mobility-inexact : inexact Mobility (mobilityInput i) ≡ inexactOf ofMobility i
+  mobility-inexact =
+      let beta = fittedBy i .mobility .coefficients in
+      let solved = isSolved (fittedBy i .mobility .outcome) in
+      let asked = queries (i .peptide) (i .charge) in
+      ap (λ (x : Fit).
+      cond (isSolved (x .outcome)) (inexactIn Mobility (mobilityInput i .table) (x .coefficients) asked) 0)
+      mobility-fit
+      ∙ ap (λ (n : ℕ). cond solved n 0)
+      (mobility-counts (i .table .letters) (i .table .offsets) (i .table .masses) (i .table .logs) beta asked)
+      ∙ ap (λ (x : List Query). cond solved (inexactIn Mobility (i .table) beta x) 0) queries-of-mobility
+
+  pub mobility-part : (s t : PredictSlices) (r : PredictAnswer)
       → predictStatus Mobility (mobilityInput i) s ≡ accepted
       → PredictCall Mobility (mobilityInput i) (change s t) r → ModelPart ofMobility i s t r
   mobility-part s t r accept c =
       model-part ofMobility i (mobilityInput i) s t r accept mobility-fit
-      (mobility-predicted ∙ predictions-written ofMobility (i .table) (fittedBy i) (rows i)) mobility-errors c
+      (mobility-predicted ∙ predictions-written ofMobility (i .table) (fittedBy i) (rows i))
+      mobility-errors mobility-inexact c
 
 -- ---- the models accept
 
@@ -232,11 +256,11 @@ module _ (i : Input) (s : Slices) (p : Passed i (roomOf s)) where
   pub run-filled : (t : AlignSlices) (answer : AlignAnswer)
       → Aligned (alignInput i) (change alignSlices t) answer
       → length (t .workspace) ≡ length (s .workspace) → length (t .aligned) ≡ length (s .aligned)
-      → (t₁ : PredictSlices) (r₁ : FitAnswer)
+      → (t₁ : PredictSlices) (r₁ : PredictAnswer)
       → PredictCall Retention (retentionInput i (take (length (i .file)) (t .aligned)))
       (change (retentionSlices (t .workspace)) t₁) r₁
       → length (t₁ .workspace) ≡ length (s .workspace)
-      → (t₂ : PredictSlices) (r₂ : FitAnswer)
+      → (t₂ : PredictSlices) (r₂ : PredictAnswer)
       → PredictCall Mobility (mobilityInput i) (change (mobilitySlices (t₁ .workspace)) t₂) r₂
       → Filled i (change s (record {
         workspace = t₂ .workspace;
@@ -271,8 +295,8 @@ module _ (i : Input) (s : Slices) (p : Passed i (roomOf s)) where
       {x = max second (max first cells)} {y = max cells second} (omega arith) in
       record {
         answer =
-            ap (λ (u : FitAnswer). Ran (outcomeOf u) (outcomeOf r₂)) (x .answer)
-            ∙ ap (λ (u : FitAnswer). Ran (fittedBy i .retention .outcome) (outcomeOf u)) (y .answer);
+            ap (λ (u : PredictAnswer). Ran (outcomeOf u) (outcomeOf r₂)) (x .answer)
+            ∙ ap (λ (u : PredictAnswer). Ran (predictOutcomeOf ofRetention i) (outcomeOf u)) (y .answer);
         slices = λ k.
             record {
               workspace = workspace-is k;

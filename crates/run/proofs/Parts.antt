@@ -25,13 +25,14 @@ use Rattle.regression.specs.Regression.{Fit}
 use Rattle.regression.specs.Workspace.{workspaceCells}
 use Rattle.model_fit.specs.Input.{Input as ModelInput}
 use Rattle.model_fit.specs.Samples.{fitOfInput}
-use Rattle.models.specs.Prediction.{predictions, errors}
-use Rattle.models.specs.Call.{PredictSlices, PredictCall, predictStatus, predictFilled, answerOf}
-use Rattle.models.specs.declared.FitAnswer.{FitAnswer}
-use Rattle.models.specs.declared.FitAnswer.the-variants.{Fitted}
+use Rattle.models.specs.Prediction.{predictions, errors, inexact}
+use Rattle.models.specs.Call.{PredictSlices, PredictCall, predictStatus, predictFilled, predictOutcome, predictAnswerOf}
+use Rattle.models.specs.declared.PredictOutcome.{PredictOutcome}
+use Rattle.models.specs.declared.PredictAnswer.{PredictAnswer}
+use Rattle.models.specs.declared.PredictAnswer.the-variants.{Predicted}
 use Rattle.run.specs.Fitted.{RowOutcome, obsOf, target, longest, fileRecords, fitted, outcome}
 use Rattle.run.specs.Fitted.{Part, modelOf, fitOfPart}
-use Rattle.run.specs.Call.{Input, rows, peptides, fittedBy, outcomes}
+use Rattle.run.specs.Call.{Input, rows, peptides, fittedBy, inexactOf, predictOutcomeOf, outcomes}
 use Rattle.run.specs.Call.{predictionsOf, errorsOf, filledModel}
 use Rattle.run.specs.Parts.{alignInput}
 use Rattle.run.proofs.Rows.{rows-observed, training-observed, map-twice}
@@ -108,17 +109,18 @@ align-part i k s t r accept c =
 
 -- ---- a model
 
-pub record ModelPart (part : Part) (i : Input) (s t : PredictSlices) (r : FitAnswer) : Type 0 where
-  pub answer : r ≡ Fitted (fitOfPart part (fittedBy i) .outcome)
+pub record ModelPart (part : Part) (i : Input) (s t : PredictSlices) (r : PredictAnswer) : Type 0 where
+  pub answer : r ≡ Predicted (predictOutcomeOf part i)
   pub workspace : t .workspace
       ≡ overwritten (replicate (workspaceCells (orderOf (modelOf part))) zero64) (s .workspace)
   pub outputs : t .outputs ≡ filledModel part i (s .outputs)
 
-module _ (part : Part) (i : Input) (m : ModelInput) (s t : PredictSlices) (r : FitAnswer)
+module _ (part : Part) (i : Input) (m : ModelInput) (s t : PredictSlices) (r : PredictAnswer)
     (accept : predictStatus (modelOf part) m s ≡ accepted)
     (fit : fitOfInput (modelOf part) m ≡ fitOfPart part (fittedBy i))
     (predictions-are : predictions (modelOf part) m ≡ predictionsOf part i)
-    (errors-are : errors (modelOf part) m ≡ errorsOf part i) where
+    (errors-are : errors (modelOf part) m ≡ errorsOf part i)
+    (inexact-is : inexact (modelOf part) m ≡ inexactOf part i) where
   pub model-part : PredictCall (modelOf part) m (change s t) r → ModelPart part i s t r
   model-part c =
       let model = modelOf part in
@@ -131,8 +133,8 @@ module _ (part : Part) (i : Input) (m : ModelInput) (s t : PredictSlices) (r : F
       record {
         answer =
             c .answer
-            ∙ ap (λ (n : ℕ). answerOf n (fitOfInput model m)) accept
-            ∙ ap (λ (f : Fit). Fitted (f .outcome)) fit;
+            ∙ ap (λ (n : ℕ). predictAnswerOf n (predictOutcome model m)) accept
+            ∙ ap Predicted (λ k. record { fit = fit k .outcome; inexact = inexact-is k });
         workspace = ap (λ (x : PredictSlices). x .workspace) after-is;
         outputs =
             ap (λ (x : PredictSlices). x .outputs) after-is

@@ -17,7 +17,7 @@ use Rattle.model_fit.specs.Input.{Query, queries, tableOf}
 use Rattle.model_fit.specs.Samples.{sampleOf}
 use Rattle.matrix.proofs.Lists.{zipWith-map, zipWith-none}
 use Rattle.model_fit.proofs.Rows.{queries-map, queries-bare}
-use Rattle.models.specs.Prediction.{predictionOf, errorOf, isSolved}
+use Rattle.models.specs.Prediction.{predictionOf, errorOf, inexactIn, isSolved}
 use Rattle.rt_matrix.specs.Line.{present}
 use Rattle.run.specs.Fitted.{Fitted, Predicted, obsOf, rowQuery, target, rowSample, outcome}
 use Rattle.run.specs.Fitted.{Part, modelOf, fitOfPart, resultBy, resultOf}
@@ -78,6 +78,12 @@ module _ (letters offsets : List ℕ) (masses logs : List Float) where
       ≡ map (predictionOf Mobility (tableOf letters offsets masses logs) beta) qs
   unfolding design
   mobility-predictions beta qs = refl
+
+  pub mobility-counts : (beta : List Float) (qs : List Query)
+      → inexactIn Mobility (tableOf letters offsets masses []) beta qs
+      ≡ inexactIn Mobility (tableOf letters offsets masses logs) beta qs
+  unfolding design
+  mobility-counts beta qs = refl
 
 -- ---- predictions and errors of all rows
 

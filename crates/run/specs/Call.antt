@@ -1,6 +1,6 @@
 -- A call of `run`: what it is passed, its status, what it answers, and what it leaves in every slice. Definitions only.
 use mathlib.Core.Path.{_≡_}
-use mathlib.Core.Bool.{Bool, _&&_}
+use mathlib.Core.Bool.{Bool, _&&_, cond}
 use mathlib.Core.List.{List, [], _∷_, map}
 use Prim.Native.Nat.{ℕ, _*_, max}
 use lib.Dec.{leb}
@@ -31,16 +31,16 @@ use Rattle.embedding.specs.declared.Model.{Model}
 use Rattle.embedding.specs.declared.Model.the-variants.{Retention, Mobility}
 use Rattle.rt_matrix.specs.Line.{present}
 use Rattle.rt_matrix.specs.Columns.{FileColumns, columnsOf, writtenOver, fileRoom, eachLong}
-use Rattle.regression.specs.Regression.{Values, toldBy as outcomeTold}
 use Rattle.regression.specs.Workspace.{workspaceCells}
-use Rattle.regression.specs.declared.FitOutcome.{FitOutcome}
 use Rattle.regression.specs.declared.FitOutcome.the-variants.{NotSolved}
 use Rattle.model_fit.specs.Input.{tableAt}
-use Rattle.models.specs.Call.{ModelOutputs}
-use Rattle.models.specs.declared.FitAnswer.{FitAnswer}
-use Rattle.models.specs.declared.FitAnswer.the-variants.{Fitted, Refused as NoFit}
-use Rattle.run.specs.Fitted.{Fitted as FittedNumbers, Predicted, RowOutcome, longest, fitted, outcome}
-use Rattle.run.specs.Fitted.{Part, ofRetention, ofMobility, fitOfPart, resultOf}
+use Rattle.models.specs.Prediction.{isSolved, inexactIn}
+use Rattle.models.specs.Call.{ModelOutputs, PredictValues, predictOutcomeTold}
+use Rattle.models.specs.declared.PredictOutcome.{PredictOutcome}
+use Rattle.models.specs.declared.PredictAnswer.{PredictAnswer}
+use Rattle.models.specs.declared.PredictAnswer.the-variants.{Predicted as Answered, Refused as Unpredicted}
+use Rattle.run.specs.Fitted.{Fitted, Predicted, RowOutcome, rowQuery, longest, fitted, outcome}
+use Rattle.run.specs.Fitted.{Part, ofRetention, ofMobility, modelOf, fitOfPart, resultOf}
 use Rattle.run.specs.declared.checks.ModelRoom.{ModelRoom}
 use Rattle.run.specs.declared.checks.Room.{Room}
 use Rattle.run.specs.declared.RunAnswer.{RunAnswer}
@@ -189,19 +189,36 @@ status i s = statusBy i (roomOf s)
 -- ---- the answer
 
 -- what the rows give
-abbrev pub fittedBy : Input → FittedNumbers
+abbrev pub fittedBy : Input → Fitted
 fittedBy i = fitted (i .files) (i .table) (longest (i .files) (rows i)) (training (rows i))
 
-unfoldable pub answerOf : (status : ℕ) → FittedNumbers → RunAnswer
-answerOf s f = ifAccepted s (Ran (f .retention .outcome) (f .mobility .outcome)) (Refused s)
+-- of how many rows, those outside the training set too, narrowing changed a model's prediction: 0 where it does not fit
+abbrev pub inexactOf : Part → Input → ℕ
+inexactOf part i =
+    let fit = fitOfPart part (fittedBy i) in
+    cond (isSolved (fit .outcome))
+    (inexactIn (modelOf part) (i .table) (fit .coefficients) (map (rowQuery (modelOf part)) (rows i)))
+    0
 
--- what an accepted run gives: what the fit of each model tells
+-- the outcome of a model's fit, and that count
+abbrev pub predictOutcomeOf : Part → Input → PredictOutcome
+predictOutcomeOf part i = record { fit = fitOfPart part (fittedBy i) .outcome; inexact = inexactOf part i }
+
+-- what an accepted run answers
+abbrev pub ranOf : Input → RunAnswer
+ranOf i = Ran (predictOutcomeOf ofRetention i) (predictOutcomeOf ofMobility i)
+
+unfoldable pub answerOf : (status : ℕ) → Input → RunAnswer
+answerOf s i = ifAccepted s (ranOf i) (Refused s)
+
+-- what an accepted run gives: what each model's prediction tells
 pub record FitsTold : Type 0 where
-  pub retention : Told Values
-  pub mobility : Told Values
+  pub retention : Told PredictValues
+  pub mobility : Told PredictValues
 
-abbrev pub fitsTold : (retention mobility : FitOutcome) → FitsTold
-fitsTold retention mobility = record { retention = outcomeTold retention; mobility = outcomeTold mobility }
+abbrev pub fitsTold : (retention mobility : PredictOutcome) → FitsTold
+fitsTold retention mobility =
+    record { retention = predictOutcomeTold retention; mobility = predictOutcomeTold mobility }
 
 -- what every case of an answer tells
 abbrev pub toldBy : RunAnswer → Told FitsTold
@@ -245,13 +262,13 @@ filled i s =
     }
 
 -- the outcome that an answer carries; one that is refused, which no accepted run gets, counts as not solved
-abbrev pub outcomeOf : FitAnswer → FitOutcome
-outcomeOf (Fitted o) = o
-outcomeOf (NoFit n) = NotSolved
+abbrev pub outcomeOf : PredictAnswer → PredictOutcome
+outcomeOf (Answered p) = p
+outcomeOf (Unpredicted n) = record { fit = NotSolved; inexact = 0 }
 
 -- an accepted call: its answer and every slice
 pub record Filled (i : Input) (s : Change Slices) (r : RunAnswer) : Type 0 where
-  pub answer : r ≡ Ran (fittedBy i .retention .outcome) (fittedBy i .mobility .outcome)
+  pub answer : r ≡ ranOf i
   pub slices : s .exit ≡ filled i (s .entry)
 
 -- what a call leaves: a refused one every slice as it was
@@ -260,8 +277,8 @@ slicesAfter i s = ifAccepted (status i s) (filled i s) s
 
 -- The contract: the answer, what it tells, and every slice, each cell of it.
 pub record RunCall (i : Input) (s : Change Slices) (r : RunAnswer) : Type 0 where
-  pub answer : r ≡ answerOf (status i (s .entry)) (fittedBy i)
+  pub answer : r ≡ answerOf (status i (s .entry)) i
   pub told : toldBy r
       ≡ toldFor (status i (s .entry))
-      (gives (fitsTold (fittedBy i .retention .outcome) (fittedBy i .mobility .outcome)))
+      (gives (fitsTold (predictOutcomeOf ofRetention i) (predictOutcomeOf ofMobility i)))
   pub slices : s .exit ≡ slicesAfter i (s .entry)

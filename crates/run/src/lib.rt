@@ -8,7 +8,8 @@ ghost use Rattle.run.specs.Call.{inputAt, inputOf, slicesAt, slicesOf, s
 use crate::checks::ModelRoom;
 use crate::checks::Room;
 use crate::checks::check;
-use models::FitAnswer;
+use models::PredictAnswer;
+use models::PredictOutcome;
 use models::mobility_model;
 use models::retention_model;
 use regression::FitOutcome;
@@ -17,22 +18,25 @@ use rt_matrix::FileRoom;
 
 mod checks; // the checks, in document 01's order
 
-// What a run answers: the outcome of each fit, or the status of the check that refused the call.
+// What a run answers: the outcome of each model's prediction, or the status of the check that refused the call.
 pub enum RunAnswer {
     Ran {
-        retention: FitOutcome,
-        mobility: FitOutcome,
+        retention: PredictOutcome,
+        mobility: PredictOutcome,
     },
     Refused(u8),
 }
 
-// The outcome of a fit that is not refused.
-fn outcome_of(answer: FitAnswer) -> FitOutcome
+// The outcome of a prediction that is not refused.
+fn outcome_of(answer: PredictAnswer) -> PredictOutcome
     ensures { λ r. ⌜ r ≡ outcomeOf answer ⌝ }
 {
     match answer {
-        FitAnswer::Fitted(outcome) => outcome,
-        FitAnswer::Refused(_) => FitOutcome::NotSolved,
+        PredictAnswer::Predicted(outcome) => outcome,
+        PredictAnswer::Refused(_) => PredictOutcome {
+            fit: FitOutcome::NotSolved,
+            inexact: 0,
+        },
     }
 }
 
@@ -55,6 +59,9 @@ fn run_accepted(
     slope: &mut [f32],
     intercept: &mut [f32],
     used: &mut [u32],
+    max_rt_exact: &mut [bool],
+    slope_exact: &mut [bool],
+    intercept_exact: &mut [bool],
     aligned: &mut [f32],
     retention_beta: &mut [f64],
     retention_predicted: &mut [f32],
@@ -65,13 +72,17 @@ fn run_accepted(
 ) -> RunAnswer
     requires { ⌜ status
         (inputAt file peptide label q rt charge mobility files letters offsets masses logs)
-        (slicesAt workspace (fileColumnsAt «max_rt» slope intercept used) aligned
+        (slicesAt workspace
+        (fileColumnsAt «max_rt» slope intercept used «max_rt_exact» «slope_exact» «intercept_exact»)
+        aligned
         (outputsAt «retention_beta» «retention_predicted» «retention_error»)
         (outputsAt «mobility_beta» «mobility_predicted» «mobility_error»))
         ≡ accepted ⌝ }
     ensures { λ r. ⌜ Filled
         (inputOf file peptide label q rt charge mobility files letters offsets masses logs)
-        (slicesOf workspace (fileColumnsOf «max_rt» slope intercept used) aligned
+        (slicesOf workspace
+        (fileColumnsOf «max_rt» slope intercept used «max_rt_exact» «slope_exact» «intercept_exact»)
+        aligned
         (outputsOf «retention_beta» «retention_predicted» «retention_error»)
         (outputsOf «mobility_beta» «mobility_predicted» «mobility_error»))
         r ⌝ }
@@ -91,6 +102,9 @@ fn run_accepted(
         slope,
         intercept,
         used,
+        max_rt_exact,
+        slope_exact,
+        intercept_exact,
         aligned,
     );
     let retention = retention_model::predict(
@@ -127,8 +141,8 @@ fn run_accepted(
     }
 }
 
-// Runs a batch. Of the workspace it needs the larger of peptides × files and 20,200 cells, of max_rt, slope, intercept
-// and used one for each file, of aligned, of the predictions and of the errors one for each row, and 69 and 100
+// Runs a batch. Of the workspace it needs the larger of peptides × files and 20,200 cells, of each field of the files'
+// records one for each file, of aligned, of the predictions and of the errors one for each row, and 69 and 100
 // coefficients. What is longer keeps its rest, a refused call leaves every slice as it was, and the outputs of a
 // model that does not fit keep what they held.
 pub fn run(
@@ -149,6 +163,9 @@ pub fn run(
     slope: &mut [f32],
     intercept: &mut [f32],
     used: &mut [u32],
+    max_rt_exact: &mut [bool],
+    slope_exact: &mut [bool],
+    intercept_exact: &mut [bool],
     aligned: &mut [f32],
     retention_beta: &mut [f64],
     retention_predicted: &mut [f32],
@@ -159,7 +176,9 @@ pub fn run(
 ) -> RunAnswer
     ensures { λ r. ⌜ RunCall
         (inputOf file peptide label q rt charge mobility files letters offsets masses logs)
-        (slicesOf workspace (fileColumnsOf «max_rt» slope intercept used) aligned
+        (slicesOf workspace
+        (fileColumnsOf «max_rt» slope intercept used «max_rt_exact» «slope_exact» «intercept_exact»)
+        aligned
         (outputsOf «retention_beta» «retention_predicted» «retention_error»)
         (outputsOf «mobility_beta» «mobility_predicted» «mobility_error»))
         r ⌝ }
@@ -169,6 +188,9 @@ pub fn run(
         slope: slope.len(),
         intercept: intercept.len(),
         used: used.len(),
+        max_rt_exact: max_rt_exact.len(),
+        slope_exact: slope_exact.len(),
+        intercept_exact: intercept_exact.len(),
     };
     let retention = ModelRoom {
         beta: retention_beta.len(),
@@ -223,6 +245,9 @@ pub fn run(
         slope,
         intercept,
         used,
+        max_rt_exact,
+        slope_exact,
+        intercept_exact,
         aligned,
         retention_beta,
         retention_predicted,

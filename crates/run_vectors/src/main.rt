@@ -1,7 +1,9 @@
 // Replays stored runs of the Rust. Standard input is the number of batches and then, for each, the numbers of files,
 // peptides, letters and rows, the peptide table (offsets, letters, masses, logs) and the columns file, peptide,
 // label, q, rt, charge and mobility. Standard output is, for each, the status, the columns max_rt, slope, intercept,
-// used and aligned, what each fit answers, and the predictions and errors of each that solves.
+// used, max_rt_exact, slope_exact, intercept_exact and aligned, what each model answers, and the predictions and errors
+// of each that solves.
+use models::PredictOutcome;
 use regression::FitOutcome;
 use run::RunAnswer;
 use vectors::Token;
@@ -18,19 +20,48 @@ const ROWS: usize = 512;
 // The workspace of the mobility fit, which is more than the files times the peptides.
 const CELLS: usize = regression::MAX_WORKSPACE;
 
-// Writes 8, 9, or 0 with the ridge, r2, n and the coefficients, and says whether the fit solved.
-fn write_fit(outcome: FitOutcome, beta: &[f64]) -> bool {
-    match outcome {
+// Writes the fields of the first files' records, and the first rows' aligned times.
+fn write_records(
+    files: usize,
+    rows: usize,
+    max_rt: &[f32; FILES],
+    slope: &[f32; FILES],
+    intercept: &[f32; FILES],
+    used: &[u32; FILES],
+    max_rt_exact: &[bool; FILES],
+    slope_exact: &[bool; FILES],
+    intercept_exact: &[bool; FILES],
+    aligned: &[f32; ROWS],
+) {
+    vectors::write_first_f32s(max_rt, files);
+    vectors::write_first_f32s(slope, files);
+    vectors::write_first_f32s(intercept, files);
+    vectors::write_first_u32s(used, files);
+    vectors::write_first_bools(max_rt_exact, files);
+    vectors::write_first_bools(slope_exact, files);
+    vectors::write_first_bools(intercept_exact, files);
+    vectors::write_first_f32s(aligned, rows);
+}
+
+// Writes the status 8, 9 or 0 and the count of predictions that narrowing changed, and with 0 the ridge, r2, n and the
+// coefficients; says whether the fit solved.
+fn write_fit(outcome: PredictOutcome, beta: &[f64]) -> bool {
+    let fit = outcome.fit;
+    let inexact = outcome.inexact as u64;
+    match fit {
         FitOutcome::NoTrainingRows => {
             vectors::write_token(8);
+            vectors::write_token(inexact);
             false
         }
         FitOutcome::NotSolved => {
             vectors::write_token(9);
+            vectors::write_token(inexact);
             false
         }
         FitOutcome::Solved { ridge, r2, n } => {
             vectors::write_token(0);
+            vectors::write_token(inexact);
             vectors::write_f64(ridge);
             vectors::write_f64(r2);
             vectors::write_token(n as u64);
@@ -41,7 +72,7 @@ fn write_fit(outcome: FitOutcome, beta: &[f64]) -> bool {
 }
 
 // Writes the first rows of a model's predictions and errors, if it solved.
-fn write_model(solved: bool, predicted: &[f32], error: &[f32], rows: usize) {
+fn write_model(solved: bool, predicted: &[f32; ROWS], error: &[f32; ROWS], rows: usize) {
     if solved {
         vectors::write_first_f32s(predicted, rows);
         vectors::write_first_f32s(error, rows);
@@ -71,6 +102,10 @@ fn answer(
     let mut slope = [held; FILES];
     let mut intercept = [held; FILES];
     let mut used = [float::ceil_to_u32(held); FILES];
+    let flag = held > 100.0;
+    let mut max_rt_exact = [flag; FILES];
+    let mut slope_exact = [flag; FILES];
+    let mut intercept_exact = [flag; FILES];
     let mut aligned = [held; ROWS];
     let mut retention_beta = [float::widen(held); embedding::RETENTION_FEATURES];
     let mut retention_predicted = [held; ROWS];
@@ -96,6 +131,9 @@ fn answer(
         &mut slope,
         &mut intercept,
         &mut used,
+        &mut max_rt_exact,
+        &mut slope_exact,
+        &mut intercept_exact,
         &mut aligned,
         &mut retention_beta,
         &mut retention_predicted,
@@ -111,11 +149,18 @@ fn answer(
             mobility,
         } => {
             vectors::write_token(0);
-            vectors::write_first_f32s(&max_rt, files);
-            vectors::write_first_f32s(&slope, files);
-            vectors::write_first_f32s(&intercept, files);
-            vectors::write_first_u32s(&used, files);
-            vectors::write_first_f32s(&aligned, rows);
+            write_records(
+                files,
+                rows,
+                &max_rt,
+                &slope,
+                &intercept,
+                &used,
+                &max_rt_exact,
+                &slope_exact,
+                &intercept_exact,
+                &aligned,
+            );
             let r = write_fit(retention, &retention_beta);
             let m = write_fit(mobility, &mobility_beta);
             write_model(r, &retention_predicted, &retention_error, rows);

@@ -190,6 +190,14 @@ pub fn write_u32s(xs: &[u32]) {
     }
 }
 
+pub fn write_bools(xs: &[bool]) {
+    let mut i = 0usize;
+    while i < xs.len() {
+        write_bool(xs[i]);
+        i += 1;
+    }
+}
+
 // Writes the first n cells; nothing where there are fewer.
 pub fn write_first_f32s(xs: &[f32], n: usize) {
     if n <= xs.len() {
@@ -201,5 +209,12 @@ pub fn write_first_f32s(xs: &[f32], n: usize) {
 pub fn write_first_u32s(xs: &[u32], n: usize) {
     if n <= xs.len() {
         write_u32s(&xs[..n]);
+    }
+}
+
+// The same for flags.
+pub fn write_first_bools(xs: &[bool], n: usize) {
+    if n <= xs.len() {
+        write_bools(&xs[..n]);
     }
 }

@@ -1,7 +1,7 @@
 // The answers of the entry points as hosts see them: an enum becomes its status and the values of its case, and 0 for
 // what the case has not.
 ghost use mathlib.Core.Path.{_≡_};
-ghost use Rattle.zorkamai.specs.Answers.{ofSolve, ofAlign, ofOutcome, ofFit, ofRun, ofFound, ofTime, ofStep};
+ghost use Rattle.zorkamai.specs.Answers.{ofSolve, ofAlign, ofPrediction, ofFit, ofPredict, ofRun, ofFound, ofTime, ofStep};
 use crate::Answer;
 use crate::CellAnswer;
 use crate::RecordAnswer;
@@ -10,6 +10,8 @@ use crate::TimeAnswer;
 use gauss::SolveAnswer;
 use matrix::ColStep;
 use models::FitAnswer;
+use models::PredictAnswer;
+use models::PredictOutcome;
 use records::AlignedTime;
 use records::Found;
 use regression::FitOutcome;
@@ -25,6 +27,7 @@ fn only(status: u8) -> Answer
         ridge: 0.0,
         r2: 0.0,
         n: 0,
+        inexact: 0,
     }
 }
 
@@ -37,6 +40,7 @@ pub(crate) fn of_solve(a: SolveAnswer) -> Answer
             ridge,
             r2: 0.0,
             n: 0,
+            inexact: 0,
         },
         SolveAnswer::Unsolved => only(status::NOT_SOLVED),
         SolveAnswer::Refused(status) => only(status),
@@ -52,27 +56,39 @@ pub(crate) fn of_align(a: AlignAnswer) -> u8
     }
 }
 
-pub(crate) fn of_outcome(o: FitOutcome) -> Answer
-    ensures { λ r. ⌜ r ≡ ofOutcome o ⌝ }
+pub(crate) fn of_prediction(p: PredictOutcome) -> Answer
+    ensures { λ r. ⌜ r ≡ ofPrediction p ⌝ }
 {
-    match o {
+    let fit = p.fit;
+    match fit {
         FitOutcome::Solved { ridge, r2, n } => Answer {
             status: status::ACCEPTED,
             ridge,
             r2,
             n,
+            inexact: p.inexact,
         },
         FitOutcome::NoTrainingRows => only(status::NO_TRAINING),
         FitOutcome::NotSolved => only(status::NOT_SOLVED),
     }
 }
 
+// A fit alone predicts no row.
 pub(crate) fn of_fit(a: FitAnswer) -> Answer
     ensures { λ r. ⌜ r ≡ ofFit a ⌝ }
 {
     match a {
-        FitAnswer::Fitted(outcome) => of_outcome(outcome),
+        FitAnswer::Fitted(fit) => of_prediction(PredictOutcome { fit, inexact: 0 }),
         FitAnswer::Refused(status) => only(status),
+    }
+}
+
+pub(crate) fn of_predict(a: PredictAnswer) -> Answer
+    ensures { λ r. ⌜ r ≡ ofPredict a ⌝ }
+{
+    match a {
+        PredictAnswer::Predicted(p) => of_prediction(p),
+        PredictAnswer::Refused(status) => only(status),
     }
 }
 
@@ -85,8 +101,8 @@ pub(crate) fn of_run(a: RunAnswer) -> RunReport
             mobility,
         } => RunReport {
             status: status::ACCEPTED,
-            retention: of_outcome(retention),
-            mobility: of_outcome(mobility),
+            retention: of_prediction(retention),
+            mobility: of_prediction(mobility),
         },
         RunAnswer::Refused(status) => RunReport {
             status,
@@ -106,6 +122,9 @@ pub(crate) fn of_found(f: Found) -> RecordAnswer
             slope: a.slope,
             intercept: a.intercept,
             used: a.used,
+            max_rt_exact: a.max_rt_exact,
+            slope_exact: a.slope_exact,
+            intercept_exact: a.intercept_exact,
         },
         Found::Refused(status) => RecordAnswer {
             status,
@@ -113,6 +132,9 @@ pub(crate) fn of_found(f: Found) -> RecordAnswer
             slope: 0.0,
             intercept: 0.0,
             used: 0,
+            max_rt_exact: false,
+            slope_exact: false,
+            intercept_exact: false,
         },
     }
 }

@@ -28,17 +28,18 @@ use models::mobility_model;
 use models::retention_model;
 use records::Alignment;
 
-// The answer of the solver or of a fit: its status and, if that is 0, the ridge, the fit's r2 and the number of
-// training rows. What a call does not give is 0.
+// The answer of the solver, of a fit or of a prediction: its status and, if that is 0, the ridge, the fit's r2 and the
+// number of training rows, and of how many rows narrowing changed the prediction. What a call does not give is 0.
 #[repr(C)]
 pub struct Answer {
     pub status: u8,
     pub ridge: f64,
     pub r2: f64,
     pub n: u32,
+    pub inexact: u32,
 }
 
-// The answer of a run: its status, and the answer of each model's fit.
+// The answer of a run: its status, and the answer of each model's prediction.
 #[repr(C)]
 pub struct RunReport {
     pub status: u8,
@@ -54,6 +55,9 @@ pub struct RecordAnswer {
     pub slope: f32,
     pub intercept: f32,
     pub used: u32,
+    pub max_rt_exact: bool,
+    pub slope_exact: bool,
+    pub intercept_exact: bool,
 }
 
 // A row's aligned time, if the status is 0.
@@ -101,11 +105,16 @@ pub extern "C" fn zorkamai_align(
     slope: &mut [f32],
     intercept: &mut [f32],
     used: &mut [u32],
+    max_rt_exact: &mut [bool],
+    slope_exact: &mut [bool],
+    intercept_exact: &mut [bool],
     aligned: &mut [f32],
 ) -> u8
     ensures { λ r. ⌜ AlignExported
         (alignInput file peptide label q rt files peptides)
-        (alignSlices workspace (fileColumnsOf «max_rt» slope intercept used) aligned)
+        (alignSlices workspace
+        (fileColumnsOf «max_rt» slope intercept used «max_rt_exact» «slope_exact» «intercept_exact»)
+        aligned)
         r ⌝ }
 {
     answers::of_align(retention_alignment::global_alignment(
@@ -121,6 +130,9 @@ pub extern "C" fn zorkamai_align(
         slope,
         intercept,
         used,
+        max_rt_exact,
+        slope_exact,
+        intercept_exact,
         aligned,
     ))
 }
@@ -179,7 +191,7 @@ pub extern "C" fn zorkamai_retention_predict(
         (predictSlices workspace (outputsOf beta predicted error))
         r ⌝ }
 {
-    answers::of_fit(retention_model::predict(
+    answers::of_predict(retention_model::predict(
         peptide,
         label,
         q,
@@ -249,7 +261,7 @@ pub extern "C" fn zorkamai_mobility_predict(
         (predictSlices workspace (outputsOf beta predicted error))
         r ⌝ }
 {
-    answers::of_fit(mobility_model::predict(
+    answers::of_predict(mobility_model::predict(
         peptide,
         label,
         q,
@@ -285,6 +297,9 @@ pub extern "C" fn zorkamai_run(
     slope: &mut [f32],
     intercept: &mut [f32],
     used: &mut [u32],
+    max_rt_exact: &mut [bool],
+    slope_exact: &mut [bool],
+    intercept_exact: &mut [bool],
     aligned: &mut [f32],
     retention_beta: &mut [f64],
     retention_predicted: &mut [f32],
@@ -295,7 +310,9 @@ pub extern "C" fn zorkamai_run(
 ) -> RunReport
     ensures { λ r. ⌜ RunExported
         (runInput file peptide label q rt charge mobility files letters offsets masses logs)
-        (runSlices workspace (fileColumnsOf «max_rt» slope intercept used) aligned
+        (runSlices workspace
+        (fileColumnsOf «max_rt» slope intercept used «max_rt_exact» «slope_exact» «intercept_exact»)
+        aligned
         (outputsOf «retention_beta» «retention_predicted» «retention_error»)
         (outputsOf «mobility_beta» «mobility_predicted» «mobility_error»))
         r ⌝ }
@@ -318,6 +335,9 @@ pub extern "C" fn zorkamai_run(
         slope,
         intercept,
         used,
+        max_rt_exact,
+        slope_exact,
+        intercept_exact,
         aligned,
         retention_beta,
         retention_predicted,

@@ -4,11 +4,10 @@ use mathlib.Core.List.{[], flatten}
 use native.Mathlib.Omega.{arith}
 use denote.Ref.{now}
 use lib.ListN.{length}
-use Rattle.rt_matrix.specs.Columns.{fileColumnsAt, recordsOf}
-use Rattle.rt_matrix.specs.declared.Alignment.{Alignment}
-use Rattle.rt_matrix.proofs.RecordColumns.{noRecord, length-records, records-at}
 use Rattle.text.proofs.Writing.{wrote-nothing, wrote-then}
-use Rattle.align_output.specs.Output.{acceptedText}
+use Rattle.align_output.specs.Output.{printedIn, acceptedText}
+use Rattle.align_output.specs.declared.Printed.{Printed}
+use Rattle.align_output.proofs.PrintedColumns.{length-printed, printed-at}
 use Rattle.align_output.proofs.Lengths.{Counted, status-length, files-length}
 use borrow.Author.Needs.{needs}
 use Rattle.align_output.proofs.write_accepted.Statement.{statement}
@@ -25,6 +24,8 @@ write-files-requires c κs =
       omega (arith, w .write-status .ensures .next, w .write-status .kept .0, status-length 0 (omega arith), p .0),
       p .1,
       p .2,
+      p .3,
+      p .4,
     )
 
 write-aligned-requires : tie.Need-write-aligned-requires
@@ -33,13 +34,17 @@ write-aligned-requires c κs =
     let w = v .before .before .before .before in
     let s = w .before .before .before .before .before .before .before .before in
     let a = s .args in
-    let columns = fileColumnsAt (a .max-rt) (a .slope) (a .intercept) (a .used) in
-    let files = length (now (a .max-rt)) in
-    let long = length-records columns files (s .pre .2) in
-    let counted : Counted (recordsOf columns) = λ k l.
+    let p = s .pre in
+    let ms = now (a .max-rt) in
+    let ss = now (a .slope) in
+    let is = now (a .intercept) in
+    let us = now (a .used) in
+    let files = printedIn ms ss is us in
+    let long = length-printed ms ss is us (p .2) (p .3) (p .4) in
+    let counted : Counted files = λ k l.
     omega (
       arith,
-      ap (λ (r : Alignment). r .used) (records-at columns files (s .pre .2) k noRecord (omega (arith, l, long))),
+      ap (λ (f : Printed). f .used) (printed-at ms ss is us (p .2) (p .3) (p .4) k (omega (arith, l, long))),
       w .before .before .before .shared-slice-known4 .given k,
     ) in
     omega (
@@ -49,9 +54,9 @@ write-aligned-requires c κs =
       status-length 0 (omega arith),
       v .write-files .ensures .next,
       v .write-files .kept .0,
-      files-length 0 (recordsOf columns) (omega (arith, long, s .pre .1)) counted,
+      files-length 0 files (omega (arith, long, p .1)) counted,
       long,
-      s .pre .0,
+      p .0,
     )
 
 same-length : tie.Need-same-length

@@ -2,17 +2,17 @@
 -- writing all of them gives, and a file takes at most 80 bytes.
 use mathlib.Core.Path.{_≡_, ap, _∙_, subst}
 use mathlib.Core.List.{List, _++_}
-use Prim.Native.Nat.{ℕ, _+_, _-_, _*_, _≤_}
+use Prim.Native.Nat.{ℕ, _+_, _-_, _*_, _≤_, _<_}
 use native.Mathlib.Omega.{arith}
 use lib.ListN.{length, drop, getD}
+use lib.Ieee.{nan}
 use mir.Syntax.{w32}
 use mir.Val.{Fits}
 use denote.Ref.{now}
 use borrow.Author.Needs.{needs}
-use Rattle.rt_matrix.specs.Columns.{FileColumns, fileColumnsAt, recordsOf}
-use Rattle.rt_matrix.specs.declared.Alignment.{Alignment}
-use Rattle.rt_matrix.proofs.RecordColumns.{noRecord, recordAt, length-records, records-at}
-use Rattle.align_output.specs.Output.{fileText, filesText}
+use Rattle.align_output.specs.Output.{printedIn, fileText, filesText}
+use Rattle.align_output.specs.declared.Printed.{Printed}
+use Rattle.align_output.proofs.PrintedColumns.{nonePrinted, length-printed, printed-at}
 use Rattle.align_output.proofs.Pieces.{Writing, writing-start, writing-done, writing-more}
 use Rattle.align_output.proofs.Lengths.{file-length, files-next, files-end}
 use Rattle.align_output.proofs.write_files.Statement.{statement}
@@ -20,10 +20,10 @@ use Rattle.align_output.proofs.write_files.Tie as tie
 
 abbrev Inv-loop : tie.InvT-loop
 Inv-loop out₀ at max-rt slope intercept used next₀ i₀ out next i =
-    let records = recordsOf (record { maxRt = max-rt; slope = slope; intercept = intercept; used = used }) in
+    let files = printedIn max-rt slope intercept used in
     (i ≤ length max-rt)
     × (next ≤ at + 80 * i)
-    × Writing out₀ at (filesText 0 records) out next (filesText i (drop i records))
+    × Writing out₀ at (filesText 0 files) out next (filesText i (drop i files))
 
 abbrev μ-loop : tie.MeasureT-loop
 μ-loop out₀ at max-rt slope intercept used next₀ i₀ out next i = length max-rt - i
@@ -35,12 +35,32 @@ start l = l .before .before .before .before .before .before
 abbrev turn : tie.After-write-file-arg Inv-loop μ-loop → tie.In-loop Inv-loop μ-loop
 turn c = c .before .before .before .before .before
 
--- the records
-abbrev columns : tie.Start Inv-loop μ-loop → FileColumns
-columns s = let a = s .args in fileColumnsAt (a .max-rt) (a .slope) (a .intercept) (a .used)
+-- what is printed of all files, and of one
+module _ (s : tie.Start Inv-loop μ-loop) where
+  abbrev files : List Printed
+  files = let a = s .args in printedIn (now (a .max-rt)) (now (a .slope)) (now (a .intercept)) (now (a .used))
 
-records-long : (s : tie.Start Inv-loop μ-loop) → length (recordsOf (columns s)) ≡ length (now (s .args .max-rt))
-records-long s = length-records (columns s) (length (now (s .args .max-rt))) (s .pre .2)
+  files-long : length files ≡ length (now (s .args .max-rt))
+  files-long =
+      let a = s .args in
+      let p = s .pre in
+      length-printed (now (a .max-rt)) (now (a .slope)) (now (a .intercept)) (now (a .used)) (p .2) (p .3) (p .4)
+
+  abbrev file : ℕ → Printed
+  file k =
+      let a = s .args in
+      record {
+        «max_rt» = getD (now (a .max-rt)) k nan;
+        slope = getD (now (a .slope)) k nan;
+        intercept = getD (now (a .intercept)) k nan;
+        used = getD (now (a .used)) k 0;
+      }
+
+  file-is : (k : ℕ) → k < length (now (s .args .max-rt)) → getD files k nonePrinted ≡ file k
+  file-is k h =
+      let a = s .args in
+      let p = s .pre in
+      printed-at (now (a .max-rt)) (now (a .slope)) (now (a .intercept)) (now (a .used)) (p .2) (p .3) (p .4) k h
 
 -- a file's count is of 32 bits
 used-fits : (l : tie.At-loop Inv-loop μ-loop) (k : ℕ) → Fits w32 (getD (now (start l .args .used)) k 0)
@@ -50,7 +70,7 @@ used-fits l k = l .before .shared-slice-known4 .given k
 abbrev Still : tie.At-loop Inv-loop μ-loop → List ℕ → Type 0
 Still l rest =
     let s = start l in
-    Writing (now (s .args .out)) (s .args .at) (filesText 0 (recordsOf (columns s))) (l .loop .out) (l .loop .next) rest
+    Writing (now (s .args .out)) (s .args .at) (filesText 0 (files s)) (l .loop .out) (l .loop .next) rest
 
 loop-holds : tie.Need-loop-holds Inv-loop μ-loop
 loop-holds c = (search needs, search needs, writing-start _ _ _)
@@ -100,13 +120,11 @@ loop-again c =
     let l = t .before in
     let s = start l in
     let i = l .loop .i in
-    let records = recordsOf (columns s) in
-    let a = recordAt (columns s) i in
-    let at-file =
-    records-at (columns s) (length (now (s .args .max-rt))) (s .pre .2) i noRecord (t .loop-test .taken) in
-    let next : filesText i (drop i records) ≡ fileText i a ++ filesText (i + 1) (drop (i + 1) records) =
-    files-next records noRecord i (omega (arith, records-long s))
-    ∙ ap (λ (r : Alignment). fileText i r ++ filesText (i + 1) (drop (i + 1) records)) at-file in
+    let all = files s in
+    let a = file s i in
+    let next : filesText i (drop i all) ≡ fileText i a ++ filesText (i + 1) (drop (i + 1) all) =
+    files-next all nonePrinted i (omega (arith, files-long s))
+    ∙ ap (λ (p : Printed). fileText i p ++ filesText (i + 1) (drop (i + 1) all)) (file-is s i (t .loop-test .taken)) in
     let short = file-length i a (omega (arith, s .pre .1)) (used-fits l i .fits) in (
       omega arith,
       omega (arith, l .loop .inv .1, w .write-file .ensures .next, short),
@@ -120,7 +138,7 @@ returns : tie.Need-returns Inv-loop μ-loop
 returns c =
     let l = c .before in
     let s = start l in
-    let done = files-end (recordsOf (columns s)) (l .loop .i) (omega (arith, records-long s)) in
+    let done = files-end (files s) (l .loop .i) (omega (arith, files-long s)) in
     writing-done _ _ _ _ _ (subst (Still l) done (l .loop .inv .2))
 
 pub write-files-spec : {M : Type 1} → statement M

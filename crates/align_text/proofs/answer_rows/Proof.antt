@@ -15,7 +15,9 @@ use Rattle.align_text.proofs.answer_rows.Statement.{statement}
 use Rattle.align_text.proofs.answer_rows.Tie as tie
 
 abbrev start : tie.After-global-alignment → tie.Start
-start g = g .before .before .before .before .before .before .before .before .before .before .before .before
+start g =
+    g .before .before .before .before .before .before .before .before .before .before .before .before .before .before
+    .before
 
 abbrev input : tie.After-global-alignment → Input
 input g =
@@ -27,7 +29,7 @@ ready g = start g .pre
 
 -- where the alignment's outputs are written of
 abbrev aligned : tie.After-write-accepted-arg → tie.After-global-alignment
-aligned c = c .before .before .before .before .before .before .before .before .before
+aligned c = c .before .before .before .before .before .before .before .before .before .before .before .before
 
 -- the outputs are as long as they were made
 record Kept (g : tie.After-global-alignment) : Type 0 where
@@ -35,12 +37,18 @@ record Kept (g : tie.After-global-alignment) : Type 0 where
   slope : length (g .global-alignment .last .1 .1 .1 .1 .1 .1 .1 .1 .1 .0) ≡ 8
   intercept : length (g .global-alignment .last .1 .1 .1 .1 .1 .1 .1 .1 .1 .1 .0) ≡ 8
   used : length (g .global-alignment .last .1 .1 .1 .1 .1 .1 .1 .1 .1 .1 .1 .0) ≡ 8
-  aligned : length (g .global-alignment .last .1 .1 .1 .1 .1 .1 .1 .1 .1 .1 .1 .1 .0) ≡ 256
+  aligned : length (g .global-alignment .last .1 .1 .1 .1 .1 .1 .1 .1 .1 .1 .1 .1 .1 .1 .1 .0) ≡ 256
 
 kept : (g : tie.After-global-alignment) → Kept g
 kept g =
     let k = g .global-alignment .kept .1 .1 .1 .1 .1 .1 .1 .1 in
-    record { max-rt = k .0; slope = k .1 .0; intercept = k .1 .1 .0; used = k .1 .1 .1 .0; aligned = k .1 .1 .1 .1 .0 }
+    record {
+      max-rt = k .0;
+      slope = k .1 .0;
+      intercept = k .1 .1 .0;
+      used = k .1 .1 .1 .0;
+      aligned = k .1 .1 .1 .1 .1 .1 .1 .0;
+    }
 
 -- the parts that are written of
 files-in : {A : Type 0} (g : tie.After-global-alignment) (l : List A) → length l ≡ 8
@@ -68,6 +76,15 @@ slice-aggregate-global-alignment-5 c = search needs
 
 slice-aggregate-global-alignment-6 : tie.Need-slice-aggregate-global-alignment-6
 slice-aggregate-global-alignment-6 c = search needs
+
+slice-aggregate-global-alignment-7 : tie.Need-slice-aggregate-global-alignment-7
+slice-aggregate-global-alignment-7 c = search needs
+
+slice-aggregate-global-alignment-8 : tie.Need-slice-aggregate-global-alignment-8
+slice-aggregate-global-alignment-8 c = search needs
+
+slice-aggregate-global-alignment-9 : tie.Need-slice-aggregate-global-alignment-9
+slice-aggregate-global-alignment-9 c = search needs
 
 global-alignment-requires : tie.Need-global-alignment-requires
 global-alignment-requires c κs = search needs
@@ -123,15 +140,12 @@ write-accepted-requires c κs =
     let g = aligned (c .before .before .before .before .before) in
     let l = g .global-alignment .last .1 .1 .1 .1 .1 .1 .1 .1 in
     let f = files-in g (l .0) (kept g .max-rt) in
-    let r = rows-in g (l .1 .1 .1 .1 .0) (kept g .aligned) in (
+    let r = rows-in g (l .1 .1 .1 .1 .1 .1 .1 .0) (kept g .aligned) in (
       omega (arith, f, r, ready g .files, ready g .rows, ready g .room),
       omega (arith, f, ready g .files),
-      record {
-        maxRt = refl;
-        slope = files-in g _ (kept g .slope) ∙ sym f;
-        intercept = files-in g _ (kept g .intercept) ∙ sym f;
-        used = files-in g _ (kept g .used) ∙ sym f;
-      },
+      files-in g _ (kept g .slope) ∙ sym f,
+      files-in g _ (kept g .intercept) ∙ sym f,
+      files-in g _ (kept g .used) ∙ sym f,
     )
 
 same-length : tie.Need-same-length
@@ -147,7 +161,16 @@ returns c =
     accepted-is (input g) out (ready g) _ _ _ (g .global-alignment .ensures)
     (record {
       workspace = omega arith;
-      records = record { maxRt = omega arith; slope = omega arith; intercept = omega arith; used = omega arith };
+      records =
+          record {
+            maxRt = omega arith;
+            slope = omega arith;
+            intercept = omega arith;
+            used = omega arith;
+            maxRtExact = omega arith;
+            slopeExact = omega arith;
+            interceptExact = omega arith;
+          };
       aligned = omega arith;
     })
     (arg .before .enum-told .given .1) in
@@ -163,13 +186,22 @@ returns-2 : tie.Need-returns-2
 returns-2 c =
     let w = c .before .before in
     let k = w .before .before .before in
-    let g = k .before .before .before .before .before .before .before .before in
+    let g = k .before .before .before .before .before .before .before .before .before .before .before in
     let out = now (start g .args .out) in
     let h =
     refused-is (input g) out (ready g) _ _ _ (g .global-alignment .ensures)
     (record {
       workspace = omega arith;
-      records = record { maxRt = omega arith; slope = omega arith; intercept = omega arith; used = omega arith };
+      records =
+          record {
+            maxRt = omega arith;
+            slope = omega arith;
+            intercept = omega arith;
+            used = omega arith;
+            maxRtExact = omega arith;
+            slopeExact = omega arith;
+            interceptExact = omega arith;
+          };
       aligned = omega arith;
     })
     _ (k .answer .given .1) in
@@ -185,6 +217,9 @@ answer-rows-spec =
     slice-aggregate-global-alignment-4
     slice-aggregate-global-alignment-5
     slice-aggregate-global-alignment-6
+    slice-aggregate-global-alignment-7
+    slice-aggregate-global-alignment-8
+    slice-aggregate-global-alignment-9
     global-alignment-requires
     enum-known-answer
     enum-told

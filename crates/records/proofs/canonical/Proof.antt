@@ -1,6 +1,7 @@
 -- `records::canonical` meets its contract: a case for each thing that a lookup finds. To the logic each field stays
 -- what it is.
 use mathlib.Core.Path.{_≡_, sym, ap, _∙_}
+use mathlib.Core.Bool.{Bool}
 use Prim.Native.Nat.{ℕ}
 use lib.Ieee.{Float}
 use borrow.Author.Needs.{needs}
@@ -10,7 +11,8 @@ use Rattle.records.proofs.canonical.Statement.{statement}
 use Rattle.records.proofs.canonical.Tie as tie
 
 -- equal fields make equal records
-same : {n : ℕ} {l m s t i j : Float} → l ≡ m → s ≡ t → i ≡ j → recordBy (l, s) (i, n) ≡ recordBy (m, t) (j, n)
+same : {n : ℕ} {e : (Bool × Bool) × Bool} {l m s t i j : Float} → l ≡ m → s ≡ t → i ≡ j
+    → recordBy ((l, s), (i, n)) e ≡ recordBy ((m, t), (j, n)) e
 same p q r = cc
 
 enum-known-found : tie.Need-enum-known-found

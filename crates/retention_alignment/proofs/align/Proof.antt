@@ -34,13 +34,14 @@ part n h = length-take-le n zeros (omega (arith, length-replicate {A = ℕ} maxF
 -- ---- the places
 
 abbrev start : tie.After-max → tie.Start
-start c = c .before .before .before .before .before .before .before .before .before .before .before
+start c =
+    c .before .before .before .before .before .before .before .before .before .before .before .before .before .before
 
 abbrev longest : tie.After-mean-rt-by-file → tie.After-max-rt-by-file
 longest c = c .before .before .before
 
 abbrev smallest : tie.After-fit-lines → tie.After-mean-rt-by-file
-smallest c = c .before .before .before .before .before .before .before .before .before
+smallest c = c .before .before .before .before .before .before .before .before .before .before .before .before
 
 -- what is read
 abbrev input : tie.Start → Input
@@ -109,7 +110,7 @@ slice-aggregate-fit-lines c = sym (borrowed-long (c .before .before .before .bef
 
 fit-lines-requires : tie.Need-fit-lines-requires
 fit-lines-requires c κs =
-    let d = c .before .before .before .before .before .before .before .before in
+    let d = c .before .before .before .before .before .before .before .before .before .before .before in
     let s = start (longest d .before) in
     let n = borrowed-long (longest d) in
     let p = s .pre in
@@ -122,12 +123,17 @@ fit-lines-requires c κs =
         slope = r .slope ∙ sym n;
         intercept = r .intercept ∙ sym n;
         used = r .used ∙ sym n;
+        maxRtExact = r .maxRtExact ∙ sym n;
+        slopeExact = r .slopeExact ∙ sym n;
+        interceptExact = r .interceptExact ∙ sym n;
       },
     )
 
 align-rows-requires : tie.Need-align-rows-requires
 align-rows-requires c κs =
-    let g = c .before .before .before .before .before .before .before .before .before .before .before .before in
+    let g =
+    c .before .before .before .before .before .before .before .before .before .before .before .before .before .before
+    .before .before .before .before in
     let s = start (longest (smallest g) .before) in
     let p = s .pre in
     let k = g .fit-lines .kept in
@@ -161,13 +167,23 @@ same-length-5 c = search needs
 same-length-6 : tie.Need-same-length-6
 same-length-6 c = search needs
 
+same-length-7 : tie.Need-same-length-7
+same-length-7 c = search needs
+
+same-length-8 : tie.Need-same-length-8
+same-length-8 c = search needs
+
+same-length-9 : tie.Need-same-length-9
+same-length-9 c = search needs
+
 returns : tie.Need-returns
 unfolding alignments maxRts
 returns c =
     let z = c .before .before in
     let w = c .before .before .before .before .before .before in
     let g =
-    c .before .before .before .before .before .before .before .before .before .before .before .before .before .before .before .before .before .before .before in
+    c .before .before .before .before .before .before .before .before .before .before .before .before .before .before
+    .before .before .before .before .before .before .before .before .before .before .before in
     let d = smallest g in
     let r = longest d in
     let s = start (r .before) in
@@ -187,12 +203,18 @@ returns c =
       slope = g .fit-lines .last .1 .1 .1 .1 .0;
       intercept = g .fit-lines .last .1 .1 .1 .1 .1 .0;
       used = g .fit-lines .last .1 .1 .1 .1 .1 .1 .0;
+      maxRtExact = g .fit-lines .last .1 .1 .1 .1 .1 .1 .1 .0;
+      slopeExact = g .fit-lines .last .1 .1 .1 .1 .1 .1 .1 .1 .0;
+      interceptExact = g .fit-lines .last .1 .1 .1 .1 .1 .1 .1 .1 .1 .0;
     } in
     let each : EachOf (i .files) columns = record {
       maxRt = k .1 .1 .1 .0 ∙ records .maxRt;
       slope = k .1 .1 .1 .1 .0 ∙ records .slope;
       intercept = k .1 .1 .1 .1 .1 .0 ∙ records .intercept;
       used = k .1 .1 .1 .1 .1 .1 .0 ∙ records .used;
+      maxRtExact = k .1 .1 .1 .1 .1 .1 .1 .0 ∙ records .maxRtExact;
+      slopeExact = k .1 .1 .1 .1 .1 .1 .1 .1 .0 ∙ records .slopeExact;
+      interceptExact = k .1 .1 .1 .1 .1 .1 .1 .1 .1 .0 ∙ records .interceptExact;
     } in
     record {
       workspace = z .zeros .ensures ∙ ap (λ (n : ℕ). replicate n zero64) (cells-long d);
@@ -223,4 +245,7 @@ align-spec =
     same-length-4
     same-length-5
     same-length-6
+    same-length-7
+    same-length-8
+    same-length-9
     returns)

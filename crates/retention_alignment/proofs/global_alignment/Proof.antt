@@ -13,7 +13,8 @@ use Rattle.retention_alignment.proofs.global_alignment.Statement.{state
 use Rattle.retention_alignment.proofs.global_alignment.Tie as tie
 
 abbrev start : tie.After-check → tie.Start
-start c = c .before .before .before .before .before .before .before .before .before .before .before
+start c =
+    c .before .before .before .before .before .before .before .before .before .before .before .before .before .before
 
 abbrev input : tie.Start → Input
 input s = let a = s .args in inputAt (a .file) (a .peptide) (a .label) (a .q) (a .rt) (a .files) (a .peptides)
@@ -21,7 +22,10 @@ input s = let a = s .args in inputAt (a .file) (a .peptide) (a .label) (a .q) (a
 abbrev slices : tie.Start → Slices
 slices s =
     let a = s .args in
-    slicesAt (a .workspace) (fileColumnsAt (a .max-rt) (a .slope) (a .intercept) (a .used)) (a .aligned)
+    let columns =
+    fileColumnsAt
+    (a .max-rt) (a .slope) (a .intercept) (a .used) (a .max-rt-exact) (a .slope-exact) (a .intercept-exact) in
+    slicesAt (a .workspace) columns (a .aligned)
 
 -- what the checks showed
 checks : (e : tie.Else1) → Passed (input (start (e .before))) (slices (start (e .before)))
@@ -54,8 +58,19 @@ lent5 c = lent4 (c .before)
 abbrev lent6 : tie.After-align-arg6 → tie.After-cell-count
 lent6 c = lent5 (c .before)
 
-abbrev worked : tie.After-slice-known12 → tie.After-align
-worked c = c .before .before .before .before .before .before .before .before .before .before .before .before
+abbrev lent7 : tie.After-align-arg7 → tie.After-cell-count
+lent7 c = lent6 (c .before)
+
+abbrev lent8 : tie.After-align-arg8 → tie.After-cell-count
+lent8 c = lent7 (c .before)
+
+abbrev lent9 : tie.After-align-arg9 → tie.After-cell-count
+lent9 c = lent8 (c .before)
+
+abbrev worked : tie.After-slice-known18 → tie.After-align
+worked c =
+    c .before .before .before .before .before .before .before .before .before .before .before .before .before .before
+    .before .before .before .before
 
 -- the workspace has the counted cells
 cells-fit : (d : tie.After-cell-count)
@@ -98,14 +113,32 @@ slice-aggregate-align-5 : tie.Need-slice-aggregate-align-5
 slice-aggregate-align-5 c = sym (length-take-le _ _ (checks (lent5 c .before) .records .used))
 
 slice-relend-prefix-align-6 : tie.Need-slice-relend-prefix-align-6
-slice-relend-prefix-align-6 c = checks (lent5 c .before) .aligned
+slice-relend-prefix-align-6 c = checks (lent5 c .before) .records .maxRtExact
 
 slice-aggregate-align-6 : tie.Need-slice-aggregate-align-6
-slice-aggregate-align-6 c = sym (length-take-le _ _ (checks (lent6 c .before) .aligned))
+slice-aggregate-align-6 c = sym (length-take-le _ _ (checks (lent6 c .before) .records .maxRtExact))
+
+slice-relend-prefix-align-7 : tie.Need-slice-relend-prefix-align-7
+slice-relend-prefix-align-7 c = checks (lent6 c .before) .records .slopeExact
+
+slice-aggregate-align-7 : tie.Need-slice-aggregate-align-7
+slice-aggregate-align-7 c = sym (length-take-le _ _ (checks (lent7 c .before) .records .slopeExact))
+
+slice-relend-prefix-align-8 : tie.Need-slice-relend-prefix-align-8
+slice-relend-prefix-align-8 c = checks (lent7 c .before) .records .interceptExact
+
+slice-aggregate-align-8 : tie.Need-slice-aggregate-align-8
+slice-aggregate-align-8 c = sym (length-take-le _ _ (checks (lent8 c .before) .records .interceptExact))
+
+slice-relend-prefix-align-9 : tie.Need-slice-relend-prefix-align-9
+slice-relend-prefix-align-9 c = checks (lent8 c .before) .aligned
+
+slice-aggregate-align-9 : tie.Need-slice-aggregate-align-9
+slice-aggregate-align-9 c = sym (length-take-le _ _ (checks (lent9 c .before) .aligned))
 
 align-requires : tie.Need-align-requires
 align-requires c κs =
-    let d = lent6 c in
+    let d = lent9 c in
     let p = checks (d .before) in
     record {
       peptide = p .peptide;
@@ -140,10 +173,19 @@ same-length-5 c = search needs
 same-length-6 : tie.Need-same-length-6
 same-length-6 c = search needs
 
+same-length-7 : tie.Need-same-length-7
+same-length-7 c = search needs
+
+same-length-8 : tie.Need-same-length-8
+same-length-8 c = search needs
+
+same-length-9 : tie.Need-same-length-9
+same-length-9 c = search needs
+
 returns-2 : tie.Need-returns-2
 returns-2 c =
     let w = worked c in
-    let d = lent6 (w .before) in
+    let d = lent9 (w .before) in
     let e = d .before in
     let s = start (e .before) in
     let l = w .align .last .1 .1 .1 .1 .1 .1 .1 in
@@ -153,8 +195,17 @@ returns-2 c =
     accepted-is (input s) (slices s)
     (record {
       workspace = l .0;
-      records = record { maxRt = l .1 .0; slope = l .1 .1 .0; intercept = l .1 .1 .1 .0; used = l .1 .1 .1 .1 .0 };
-      aligned = l .1 .1 .1 .1 .1 .0;
+      records =
+          record {
+            maxRt = l .1 .0;
+            slope = l .1 .1 .0;
+            intercept = l .1 .1 .1 .0;
+            used = l .1 .1 .1 .1 .0;
+            maxRtExact = l .1 .1 .1 .1 .1 .0;
+            slopeExact = l .1 .1 .1 .1 .1 .1 .0;
+            interceptExact = l .1 .1 .1 .1 .1 .1 .1 .0;
+          };
+      aligned = l .1 .1 .1 .1 .1 .1 .1 .1 .0;
     })
     (d .cell-count .result)
     (sym (e .before .check .ensures) ∙ e .if1 .left)
@@ -166,8 +217,11 @@ returns-2 c =
       slope = k .1 .1 .0 ∙ f .slope;
       intercept = k .1 .1 .1 .0 ∙ f .intercept;
       used = k .1 .1 .1 .1 .0 ∙ f .used;
+      maxRtExact = k .1 .1 .1 .1 .1 .0 ∙ f .maxRtExact;
+      slopeExact = k .1 .1 .1 .1 .1 .1 .0 ∙ f .slopeExact;
+      interceptExact = k .1 .1 .1 .1 .1 .1 .1 .0 ∙ f .interceptExact;
     })
-    (k .1 .1 .1 .1 .1 .0 ∙ length-take-le _ _ (p .aligned))
+    (k .1 .1 .1 .1 .1 .1 .1 .1 .0 ∙ length-take-le _ _ (p .aligned))
 
 pub global-alignment-spec : {M : Type 1} → statement M
 global-alignment-spec =
@@ -188,6 +242,12 @@ global-alignment-spec =
     slice-aggregate-align-5
     slice-relend-prefix-align-6
     slice-aggregate-align-6
+    slice-relend-prefix-align-7
+    slice-aggregate-align-7
+    slice-relend-prefix-align-8
+    slice-aggregate-align-8
+    slice-relend-prefix-align-9
+    slice-aggregate-align-9
     align-requires
     same-length
     same-length-2
@@ -195,4 +255,7 @@ global-alignment-spec =
     same-length-4
     same-length-5
     same-length-6
+    same-length-7
+    same-length-8
+    same-length-9
     returns-2)

@@ -22,7 +22,8 @@ use Rattle.rt_matrix.proofs.fit_columns.Tie as tie
 -- where the function begins, from each call
 abbrev start : tie.After-add-peptides-arg4 → tie.Start
 start c =
-    c .before .before .before .before .before .before .before .before .before .before .before .before .before .before .before .before
+    c .before .before .before .before .before .before .before .before .before .before .before .before .before .before
+    .before .before .before .before .before
 
 abbrev first : tie.After-x-means-arg3 → tie.After-add-peptides
 first c = c .before .before .before .before .before .before .before .before .before .before .before
@@ -30,8 +31,8 @@ first c = c .before .before .before .before .before .before .before .before .bef
 abbrev second : tie.After-add-peptides-arg6 → tie.After-x-means
 second c = c .before .before .before .before
 
-abbrev third : tie.After-store-alignments-arg9 → tie.After-add-peptides2
-third c = c .before .before .before .before .before .before .before .before .before .before .before
+abbrev third : tie.After-store-alignments-arg12 → tie.After-add-peptides2
+third c = c .before .before .before .before .before .before .before .before .before .before .before .before .before .before
 
 sized : (s : tie.Start)
     → Sized (length (now (s .args .max))) (now (s .args .len)) (now (s .args .dot)) (now (s .args .sum-x))
@@ -84,17 +85,24 @@ store-alignments-requires c κs =
     let g = s .pre .1 in
     (after r, q .add-peptides2 .kept .1 .1 .1 .1 .0 ∙ fresh-squares (length (now (a .max))) (now (a .len)) (now (a .dot)) (now (a .sum-x)) (now (a .sum-y)) (now (a .x-mean)) (now (a .sx2)) (s .pre .0), g .3)
 
+-- as the end sees the two calls that leave columns of sums
+abbrev stored : tie.After-slice-known26 → tie.After-store-alignments
+stored c = c .before .before .before .before .before .before .before .before .before .before .before .before .before .before
+
+abbrev summed : tie.After-slice-known26 → tie.After-add-peptides
+summed c = first (second (third (stored c .before) .before) .before)
+
 same-length : tie.Need-same-length
-same-length c = search needs
+same-length c = let r = summed c in search needs
 
 same-length-2 : tie.Need-same-length-2
-same-length-2 c = search needs
+same-length-2 c = let r = summed c in search needs
 
 same-length-3 : tie.Need-same-length-3
-same-length-3 c = search needs
+same-length-3 c = let r = summed c in search needs
 
 same-length-4 : tie.Need-same-length-4
-same-length-4 c = search needs
+same-length-4 c = let r = summed c in search needs
 
 same-length-5 : tie.Need-same-length-5
 same-length-5 c = search needs
@@ -114,9 +122,18 @@ same-length-9 c = search needs
 same-length-10 : tie.Need-same-length-10
 same-length-10 c = search needs
 
+same-length-11 : tie.Need-same-length-11
+same-length-11 c = search needs
+
+same-length-12 : tie.Need-same-length-12
+same-length-12 c = search needs
+
+same-length-13 : tie.Need-same-length-13
+same-length-13 c = search needs
+
 returns : tie.Need-returns
 returns c =
-    let t = c .before .before .before .before .before .before .before .before in
+    let t = stored c in
     let q = third (t .before) in
     let m = second (q .before) in
     let r = first (m .before) in
@@ -163,4 +180,7 @@ fit-columns-spec =
     same-length-8
     same-length-9
     same-length-10
+    same-length-11
+    same-length-12
+    same-length-13
     returns)

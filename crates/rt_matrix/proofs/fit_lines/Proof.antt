@@ -27,8 +27,8 @@ part ms v h =
     sym (length-take-le (length ms) (replicate maxFiles v) (omega (arith, length-replicate maxFiles v)))
 
 -- where the function begins, as each array that is lent sees it
-abbrev begin : tie.After-slice-known4 → tie.Start
-begin c = c .before .before .before .before .before .before
+abbrev begin : tie.After-slice-known7 → tie.Start
+begin c = c .before .before .before .before .before .before .before .before .before
 
 abbrev lent1 : tie.After-len → tie.Start
 lent1 c = begin (c .before)
@@ -86,7 +86,7 @@ slice-aggregate-fit-columns-6 c = let s = lent6 c in part (now (s .args .max)) _
 
 fit-columns-requires : tie.Need-fit-columns-requires
 fit-columns-requires c κs =
-    let s = lent6 (c .before .before .before .before) in
+    let s = lent6 (c .before .before .before .before .before .before .before) in
     let n = length (now (s .args .max)) in
     let g = s .pre in (
       record {
@@ -112,6 +112,15 @@ same-length-3 c = search needs
 same-length-4 : tie.Need-same-length-4
 same-length-4 c = search needs
 
+same-length-5 : tie.Need-same-length-5
+same-length-5 c = search needs
+
+same-length-6 : tie.Need-same-length-6
+same-length-6 c = search needs
+
+same-length-7 : tie.Need-same-length-7
+same-length-7 c = search needs
+
 returns : tie.Need-returns
 returns c = search needs
 
@@ -136,4 +145,7 @@ fit-lines-spec =
     same-length-2
     same-length-3
     same-length-4
+    same-length-5
+    same-length-6
+    same-length-7
     returns)

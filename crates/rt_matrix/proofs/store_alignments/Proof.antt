@@ -8,6 +8,7 @@ use denote.Ref.{now}
 use lib.ListN.{length, getD, length-set}
 use lib.Ieee.{Float, nan}
 use Rattle.rt_matrix.specs.Line.{lineOf}
+use mathlib.Core.Bool.{Bool}
 use mathlib.Core.List.{List}
 use Rattle.rt_matrix.specs.Columns.{FileColumns, EachOf, recordsOf, fileColumnsAt}
 use Rattle.rt_matrix.specs.Cells.{sumsAt, sumsOf, recordsFrom}
@@ -21,23 +22,33 @@ use Rattle.rt_matrix.proofs.store_alignments.Statement.{statement}
 use Rattle.rt_matrix.proofs.store_alignments.Tie as tie
 
 -- the columns of the records
-abbrev columns : (max-rt slope intercept : List Float) (used : List ℕ) → FileColumns
-columns max-rt slope intercept used = record { maxRt = max-rt; slope = slope; intercept = intercept; used = used }
+abbrev columns : (max-rt slope intercept : List Float) (used : List ℕ) (max-rt-exact slope-exact intercept-exact : List Bool)
+    → FileColumns
+columns max-rt slope intercept used max-rt-exact slope-exact intercept-exact =
+    record {
+      maxRt = max-rt;
+      slope = slope;
+      intercept = intercept;
+      used = used;
+      maxRtExact = max-rt-exact;
+      slopeExact = slope-exact;
+      interceptExact = intercept-exact;
+    }
 
 abbrev Inv-loop : tie.InvT-loop
-Inv-loop max len dot sum-x sum-y sx2 max-rt₀ slope₀ intercept₀ used₀ f₀ max-rt slope intercept used f =
+Inv-loop max len dot sum-x sum-y sx2 m₀ s₀ i₀ u₀ me₀ se₀ ie₀ f₀ m s i u me se ie f =
     (f ≤ length max)
-    × EachOf (length max) (columns max-rt slope intercept used)
-    × (recordsOf (columns max-rt slope intercept used)
-    ≡ upTo over f (recordsOf (columns max-rt₀ slope₀ intercept₀ used₀))
-    (recordsFrom max (sumsOf len dot sum-x sum-y) sx2))
+    × EachOf (length max) (columns m s i u me se ie)
+    × (recordsOf (columns m s i u me se ie)
+    ≡ upTo over f (recordsOf (columns m₀ s₀ i₀ u₀ me₀ se₀ ie₀)) (recordsFrom max (sumsOf len dot sum-x sum-y) sx2))
 
 abbrev μ-loop : tie.MeasureT-loop
-μ-loop max len dot sum-x sum-y sx2 max-rt₀ slope₀ intercept₀ used₀ f₀ max-rt slope intercept used f = length max - f
+μ-loop max len dot sum-x sum-y sx2 m₀ s₀ i₀ u₀ me₀ se₀ ie₀ f₀ m s i u me se ie f = length max - f
 
 -- where the function begins
 abbrev start : tie.At-loop Inv-loop μ-loop → tie.Start Inv-loop μ-loop
-start at = at .before .before .before .before .before .before .before .before .before .before .before
+start at =
+    at .before .before .before .before .before .before .before .before .before .before .before .before .before .before
 
 loop-holds : tie.Need-loop-holds Inv-loop μ-loop
 unfolding upTo
@@ -48,12 +59,6 @@ mul-fit-line c = search needs
 
 shared-slice-read-fit-line : tie.Need-shared-slice-read-fit-line Inv-loop μ-loop
 shared-slice-read-fit-line c = search needs
-
-mul-t17 : tie.Need-mul-t17 Inv-loop μ-loop
-mul-t17 c = search needs
-
-shared-slice-read-t19 : tie.Need-shared-slice-read-t19 Inv-loop μ-loop
-shared-slice-read-t19 c = search needs
 
 mul-t20 : tie.Need-mul-t20 Inv-loop μ-loop
 mul-t20 c = search needs
@@ -72,6 +77,12 @@ mul-t26 c = search needs
 
 shared-slice-read-t28 : tie.Need-shared-slice-read-t28 Inv-loop μ-loop
 shared-slice-read-t28 c = search needs
+
+mul-t29 : tie.Need-mul-t29 Inv-loop μ-loop
+mul-t29 c = search needs
+
+shared-slice-read-t31 : tie.Need-shared-slice-read-t31 Inv-loop μ-loop
+shared-slice-read-t31 c = search needs
 
 mul-fit-line-2 : tie.Need-mul-fit-line-2 Inv-loop μ-loop
 mul-fit-line-2 c = search needs
@@ -106,6 +117,15 @@ mul-used c = search needs
 slice-write-used : tie.Need-slice-write-used Inv-loop μ-loop
 slice-write-used c = search needs
 
+slice-write-max-rt-exact : tie.Need-slice-write-max-rt-exact Inv-loop μ-loop
+slice-write-max-rt-exact c = search needs
+
+slice-write-slope-exact : tie.Need-slice-write-slope-exact Inv-loop μ-loop
+slice-write-slope-exact c = search needs
+
+slice-write-intercept-exact : tie.Need-slice-write-intercept-exact Inv-loop μ-loop
+slice-write-intercept-exact c = search needs
+
 add-f : tie.Need-add-f Inv-loop μ-loop
 add-f c = search needs
 
@@ -120,7 +140,9 @@ abbrev made : tie.Start Inv-loop μ-loop → List Alignment
 made s = recordsFrom (now (s .args .max)) (sums s) (now (s .args .sx2))
 
 abbrev held : tie.Start Inv-loop μ-loop → FileColumns
-held s = let a = s .args in fileColumnsAt (a .max-rt) (a .slope) (a .intercept) (a .used)
+held s =
+    let a = s .args in
+    fileColumnsAt (a .max-rt) (a .slope) (a .intercept) (a .used) (a .max-rt-exact) (a .slope-exact) (a .intercept-exact)
 
 sums-long : (s : tie.Start Inv-loop μ-loop) → length (sums s) ≡ length (now (s .args .max))
 sums-long s =
@@ -132,13 +154,16 @@ made-long s = length-from (now (s .args .max)) (sums s) (now (s .args .sx2)) (su
 
 loop-again : tie.Need-loop-again Inv-loop μ-loop
 loop-again c =
-    let at = c .before .before .before .before .before .before .before .before in
+    let turn = c .before .before .before .before .before .before .before in
+    let at = turn .before in
     let s = start at in
     let a = s .args in
     let f = at .loop .f in
     let inv = at .loop .inv in
-    let now-held = columns (at .loop .max-rt) (at .loop .slope) (at .loop .intercept) (at .loop .used) in
-    let h : f < length (now (a .max)) = omega arith in
+    let l = at .loop in
+    let now-held =
+    columns (l .max-rt) (l .slope) (l .intercept) (l .used) (l .max-rt-exact) (l .slope-exact) (l .intercept-exact) in
+    let h : f < length (now (a .max)) = turn .loop-test .taken in
     let at-file =
     sums-at (now (a .len)) (now (a .dot)) (now (a .sum-x)) (now (a .sum-y)) (length (now (a .max))) (s .pre .0) f h in
     let is : c .fit-line .result ≡ getD (made s) f noRecord =
@@ -153,6 +178,9 @@ loop-again c =
         slope = simp length-set (inv .1 .slope);
         intercept = simp length-set (inv .1 .intercept);
         used = simp length-set (inv .1 .used);
+        maxRtExact = simp length-set (inv .1 .maxRtExact);
+        slopeExact = simp length-set (inv .1 .slopeExact);
+        interceptExact = simp length-set (inv .1 .interceptExact);
       },
       upTo-step over f (recordsOf (held s)) (made s) (recordsOf now-held) _ (c .fit-line .result) noRecord noRecord
           (inv .2) (records-set now-held f (c .fit-line .result)) is (omega (arith, made-long s)),
@@ -170,6 +198,15 @@ same-length-3 c = search needs
 same-length-4 : tie.Need-same-length-4 Inv-loop μ-loop
 same-length-4 c = search needs
 
+same-length-5 : tie.Need-same-length-5 Inv-loop μ-loop
+same-length-5 c = search needs
+
+same-length-6 : tie.Need-same-length-6 Inv-loop μ-loop
+same-length-6 c = search needs
+
+same-length-7 : tie.Need-same-length-7 Inv-loop μ-loop
+same-length-7 c = search needs
+
 returns : tie.Need-returns Inv-loop μ-loop
 returns c =
     let at = c .before in
@@ -186,14 +223,14 @@ store-alignments-spec =
     loop-holds
     mul-fit-line
     shared-slice-read-fit-line
-    mul-t17
-    shared-slice-read-t19
     mul-t20
     shared-slice-read-t22
     mul-t23
     shared-slice-read-t25
     mul-t26
     shared-slice-read-t28
+    mul-t29
+    shared-slice-read-t31
     mul-fit-line-2
     shared-slice-read-fit-line-2
     fit-line-requires
@@ -205,6 +242,9 @@ store-alignments-spec =
     slice-write-intercept
     mul-used
     slice-write-used
+    slice-write-max-rt-exact
+    slice-write-slope-exact
+    slice-write-intercept-exact
     add-f
     loop-less
     loop-again
@@ -212,4 +252,7 @@ store-alignments-spec =
     same-length-2
     same-length-3
     same-length-4
+    same-length-5
+    same-length-6
+    same-length-7
     returns)

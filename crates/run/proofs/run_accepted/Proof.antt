@@ -25,7 +25,10 @@ input s =
 abbrev held : tie.Start → Slices
 held s =
     let a = s .args in
-    slicesAt (a .workspace) (fileColumnsAt (a .max-rt) (a .slope) (a .intercept) (a .used)) (a .aligned)
+    let columns =
+    fileColumnsAt
+    (a .max-rt) (a .slope) (a .intercept) (a .used) (a .max-rt-exact) (a .slope-exact) (a .intercept-exact) in
+    slicesAt (a .workspace) columns (a .aligned)
     (outputsAt (a .retention-beta) (a .retention-predicted) (a .retention-error))
     (outputsAt (a .mobility-beta) (a .mobility-predicted) (a .mobility-error))
 
@@ -35,12 +38,15 @@ has-passed s = passed (input s) (roomOf (held s)) (s .pre)
 -- places in the code, each as a later one sees it: where it begins, and after each of the three calls
 abbrev start : tie.After-global-alignment → tie.Start
 start c =
-    c .before .before .before .before .before .before .before .before .before .before .before .before .before .before .before .before .before .before .before .before .before .before .before .before .before .before .before .before .before
+    c .before .before .before .before .before .before .before .before .before .before .before .before .before .before
+    .before .before .before .before .before .before .before .before .before .before .before .before .before .before
+    .before .before .before .before .before .before .before
 
-abbrev aligned-by : tie.After-slice-known18 → tie.After-global-alignment
-aligned-by c = c .before .before .before .before .before .before .before .before .before .before .before .before
+abbrev aligned-by : tie.After-slice-known24 → tie.After-global-alignment
+aligned-by c =
+    c .before .before .before .before .before .before .before .before .before .before .before .before .before .before .before .before .before .before
 
-abbrev before-retention : tie.After-predict → tie.After-slice-known18
+abbrev before-retention : tie.After-predict → tie.After-slice-known24
 before-retention c = c .before .before .before .before .before .before
 
 abbrev retention-by : tie.After-predict2 → tie.After-predict
@@ -54,12 +60,12 @@ abbrev alignment : tie.After-outcome-of2 → tie.After-global-alignment
 alignment c = aligned-by (before-retention (retention-by (mobility-by c)))
 
 -- the aligned times are long enough for every row
-times-long : (c : tie.After-slice-known18)
+times-long : (c : tie.After-slice-known24)
     → length (input (start (aligned-by c)) .file) ≤ length
-    (aligned-by c .global-alignment .last .1 .1 .1 .1 .1 .1 .1 .1 .1 .1 .1 .1 .0)
+    (aligned-by c .global-alignment .last .1 .1 .1 .1 .1 .1 .1 .1 .1 .1 .1 .1 .1 .1 .1 .0)
 times-long c =
     let g = aligned-by c in
-    omega (arith, has-passed (start g) .long .aligned, g .global-alignment .kept .1 .1 .1 .1 .1 .1 .1 .1 .1 .1 .1 .1 .0)
+    omega (arith, has-passed (start g) .long .aligned, g .global-alignment .kept .1 .1 .1 .1 .1 .1 .1 .1 .1 .1 .1 .1 .1 .1 .1 .0)
 
 global-alignment-requires : tie.Need-global-alignment-requires
 global-alignment-requires c κs = search needs
@@ -92,28 +98,28 @@ same-length c =
     ∙ g .global-alignment .kept .1 .1 .1 .1 .1 .1 .1 .0
 
 same-length-2 : tie.Need-same-length-2
-same-length-2 c = let g = alignment c in search needs
+same-length-2 c = alignment c .global-alignment .kept .1 .1 .1 .1 .1 .1 .1 .1 .0
 
 same-length-3 : tie.Need-same-length-3
-same-length-3 c = let g = alignment c in search needs
+same-length-3 c = alignment c .global-alignment .kept .1 .1 .1 .1 .1 .1 .1 .1 .1 .0
 
 same-length-4 : tie.Need-same-length-4
-same-length-4 c = let g = alignment c in search needs
+same-length-4 c = alignment c .global-alignment .kept .1 .1 .1 .1 .1 .1 .1 .1 .1 .1 .0
 
 same-length-5 : tie.Need-same-length-5
-same-length-5 c = let g = alignment c in search needs
+same-length-5 c = alignment c .global-alignment .kept .1 .1 .1 .1 .1 .1 .1 .1 .1 .1 .1 .0
 
 same-length-6 : tie.Need-same-length-6
-same-length-6 c = let g = alignment c in search needs
+same-length-6 c = alignment c .global-alignment .kept .1 .1 .1 .1 .1 .1 .1 .1 .1 .1 .1 .1 .0
 
 same-length-7 : tie.Need-same-length-7
-same-length-7 c = search needs
+same-length-7 c = alignment c .global-alignment .kept .1 .1 .1 .1 .1 .1 .1 .1 .1 .1 .1 .1 .1 .0
 
 same-length-8 : tie.Need-same-length-8
-same-length-8 c = search needs
+same-length-8 c = alignment c .global-alignment .kept .1 .1 .1 .1 .1 .1 .1 .1 .1 .1 .1 .1 .1 .1 .0
 
 same-length-9 : tie.Need-same-length-9
-same-length-9 c = search needs
+same-length-9 c = alignment c .global-alignment .kept .1 .1 .1 .1 .1 .1 .1 .1 .1 .1 .1 .1 .1 .1 .1 .0
 
 same-length-10 : tie.Need-same-length-10
 same-length-10 c = search needs
@@ -123,6 +129,15 @@ same-length-11 c = search needs
 
 same-length-12 : tie.Need-same-length-12
 same-length-12 c = search needs
+
+same-length-13 : tie.Need-same-length-13
+same-length-13 c = search needs
+
+same-length-14 : tie.Need-same-length-14
+same-length-14 c = search needs
+
+same-length-15 : tie.Need-same-length-15
+same-length-15 c = search needs
 
 returns : tie.Need-returns
 returns c =
@@ -135,8 +150,17 @@ returns c =
     let k = align .kept .1 .1 .1 .1 .1 .1 .1 in
     let t : AlignSlices = record {
       workspace = a .0;
-      records = record { maxRt = a .1 .0; slope = a .1 .1 .0; intercept = a .1 .1 .1 .0; used = a .1 .1 .1 .1 .0 };
-      aligned = a .1 .1 .1 .1 .1 .0;
+      records =
+          record {
+            maxRt = a .1 .0;
+            slope = a .1 .1 .0;
+            intercept = a .1 .1 .1 .0;
+            used = a .1 .1 .1 .1 .0;
+            maxRtExact = a .1 .1 .1 .1 .1 .0;
+            slopeExact = a .1 .1 .1 .1 .1 .1 .0;
+            interceptExact = a .1 .1 .1 .1 .1 .1 .1 .0;
+          };
+      aligned = a .1 .1 .1 .1 .1 .1 .1 .1 .0;
     } in
     let retention = x .predict in
     let r = retention .last .1 .1 .1 .1 .1 .1 .1 .1 in
@@ -151,7 +175,7 @@ returns c =
       outputs = record { coefficients = m .1 .0; predicted = m .1 .1 .0; error = m .1 .1 .1 .0 };
     } in
     let f =
-    run-filled (input s) (held s) (has-passed s) t (align .result) (align .ensures) (k .0) (k .1 .1 .1 .1 .1 .0)
+    run-filled (input s) (held s) (has-passed s) t (align .result) (align .ensures) (k .0) (k .1 .1 .1 .1 .1 .1 .1 .1 .0)
     t₁ (retention .result) (retention .ensures) (retention .kept .1 .1 .1 .1 .1 .1 .1 .1 .0 ∙ k .0)
     t₂ (mobility .result) (mobility .ensures) in
     rw (c .before .outcome-of .ensures, c .outcome-of2 .ensures) f
@@ -179,4 +203,7 @@ run-accepted-spec =
     same-length-10
     same-length-11
     same-length-12
+    same-length-13
+    same-length-14
+    same-length-15
     returns)

@@ -29,10 +29,19 @@ same-length-5 c = search needs
 same-length-6 : tie.Need-same-length-6
 same-length-6 c = search needs
 
+same-length-7 : tie.Need-same-length-7
+same-length-7 c = search needs
+
+same-length-8 : tie.Need-same-length-8
+same-length-8 c = search needs
+
+same-length-9 : tie.Need-same-length-9
+same-length-9 c = search needs
+
 returns : tie.Need-returns
 returns c =
     let entry =
-    c .before .before .before .before .before .before .before .before .before .before .before .before .before .global-alignment .ensures in
+    c .before .before .before .before .before .before .before .before .before .before .before .before .before .before .before .before .before .before .before .global-alignment .ensures in
     exported ofAlign _ (c .of-align .ensures) (entry .answer) entry
 
 pub zorkamai-align-spec : {M : Type 1} → statement M
@@ -47,4 +56,7 @@ zorkamai-align-spec =
     same-length-4
     same-length-5
     same-length-6
+    same-length-7
+    same-length-8
+    same-length-9
     returns)

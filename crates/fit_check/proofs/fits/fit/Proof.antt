@@ -35,11 +35,8 @@ slice-aggregate-call-5 c = part _ 4 _ (omega arith)
 call-requires : tie.Need-call-requires
 call-requires c κs = search needs
 
-number-requires : tie.Need-number-requires
-number-requires c κs = search needs
-
-write-token-requires : tie.Need-write-token-requires
-write-token-requires c κs = search needs
+write-answer-requires : tie.Need-write-answer-requires
+write-answer-requires c κs = search needs
 
 write-workspace-requires : tie.Need-write-workspace-requires
 write-workspace-requires c κs = search needs
@@ -47,8 +44,8 @@ write-workspace-requires c κs = search needs
 changed-model-requires : tie.Need-changed-model-requires
 changed-model-requires c κs = search needs
 
-write-token-requires-2 : tie.Need-write-token-requires-2
-write-token-requires-2 c κs = search needs
+write-token-requires : tie.Need-write-token-requires
+write-token-requires c κs = search needs
 
 returns : tie.Need-returns
 returns c = search needs
@@ -67,9 +64,8 @@ fit-spec =
     array-borrow-prefix-error
     slice-aggregate-call-5
     call-requires
-    number-requires
-    write-token-requires
+    write-answer-requires
     write-workspace-requires
     changed-model-requires
-    write-token-requires-2
+    write-token-requires
     returns)

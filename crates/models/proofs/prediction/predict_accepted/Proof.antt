@@ -12,8 +12,10 @@ use Rattle.model_fit.specs.Input.{Input, inputAt}
 use Rattle.models.specs.Prediction.{isSolved}
 use Rattle.models.specs.Call.{PredictSlices, predictAt}
 use Rattle.models.proofs.Calls.{Room, room, PredictRoom, predict-room, predicted-within}
-use Rattle.models.proofs.Calls.{solved-predictions, solved-errors, unsolved-predictions, unsolved-errors}
+use Rattle.models.proofs.Calls.{solved-count, solved-predictions, solved-errors}
+use Rattle.models.proofs.Calls.{unsolved-count, unsolved-predictions, unsolved-errors}
 use borrow.Author.Needs.{needs}
+use borrow.Author.Tests.{not-true, not-false}
 use Rattle.models.proofs.prediction.predict_accepted.Statement.{statement}
 use Rattle.models.proofs.prediction.predict_accepted.Tie as tie
 
@@ -60,7 +62,7 @@ module _ (o : tie.After-order) where
   beta = fitted .fit-accepted .last .1 .1 .1 .1 .1 .1 .1 .1 .1 .1 .1 .0
 
   solved : isSolved r ≡ true
-  solved = sym (o .before .before .is-solved .ensures) ∙ o .before .if1 .taken
+  solved = sym (o .before .before .is-solved .ensures) ∙ not-false _ (o .before .if1 .left)
 
   -- as many coefficients are lent as there are columns
   d-fits : o .order .result ≤ length beta
@@ -81,6 +83,26 @@ fit-accepted-requires c κs =
 is-solved-requires : tie.Need-is-solved-requires
 is-solved-requires c κs = search needs
 
+same-length : tie.Need-same-length
+same-length c = search needs
+
+same-length-2 : tie.Need-same-length-2
+same-length-2 c = search needs
+
+returns : tie.Need-returns
+returns c =
+    let g = c .before .before .before .before .before .before in
+    let s = start g in
+    let a = s .args in
+    let i : Input = passed s in
+    let r : FitOutcome = g .fit-accepted .result in
+    let f = g .fit-accepted .ensures in
+    let u : isSolved r ≡ false = sym (c .before .is-solved .ensures) ∙ not-true _ (c .if1 .taken) in
+    predicted-within (a .model) i (held s) _ _ f
+    (unsolved-count (a .model) i _ _ r f u)
+    (unsolved-predictions (a .model) i _ _ r f u (now (a .predicted)))
+    (unsolved-errors (a .model) i _ _ r f u (now (a .error)))
+
 order-requires : tie.Need-order-requires
 order-requires c κs = search needs
 
@@ -91,7 +113,9 @@ slice-aggregate-write-predictions : tie.Need-slice-aggregate-write-predictions
 slice-aggregate-write-predictions c = simp length-take (omega (arith, d-fits (c .before)))
 
 write-predictions-requires : tie.Need-write-predictions-requires
-write-predictions-requires c κs = let s = s (c .before .before) in (s .pre .0 .numbered, roomy s .predictions)
+write-predictions-requires c κs =
+    let s = s (c .before .before) in
+    (s .pre .0 .numbered, (s .pre .0 .rows-max, roomy s .predictions))
 
 write-errors-requires : tie.Need-write-errors-requires
 write-errors-requires c κs =
@@ -102,33 +126,11 @@ write-errors-requires c κs =
       omega (arith, same, roomy s .errors),
     )
 
-same-length : tie.Need-same-length
-same-length c = search needs
-
-same-length-2 : tie.Need-same-length-2
-same-length-2 c = search needs
-
 same-length-3 : tie.Need-same-length-3
 same-length-3 c = search needs
 
 same-length-4 : tie.Need-same-length-4
 same-length-4 c = search needs
-
-returns : tie.Need-returns
-returns c =
-    let x = c .before .before in
-    let p = x .before .before .before .before .before in
-    let o = p .before .before .before in
-    let a = s o .args in
-    let i : Input = passed (s o) in
-    let f = fitted o .fit-accepted .ensures in
-    let d = o .order in
-    let new : List Float = p .write-predictions .last .1 .1 .1 .1 .1 .1 .1 .1 .0 in
-    predicted-within (a .model) i (held (s o)) _ (r o) f
-    (solved-predictions (a .model) i _ _ (r o) f (solved o) (d .result) (d .ensures) (now (a .predicted)) new
-    (p .write-predictions .ensures))
-    (solved-errors (a .model) i _ _ (r o) f (solved o) (d .result) (d .ensures) (now (a .predicted)) new
-    (p .write-predictions .ensures) (now (a .error)) _ (s o .pre .0 .observed-long) (x .write-errors .ensures))
 
 same-length-5 : tie.Need-same-length-5
 same-length-5 c = search needs
@@ -138,16 +140,21 @@ same-length-6 c = search needs
 
 returns-2 : tie.Need-returns-2
 returns-2 c =
-    let g = c .before .before .before .before .before .before in
-    let s = start g in
-    let a = s .args in
-    let i : Input = passed s in
-    let r : FitOutcome = g .fit-accepted .result in
-    let f = g .fit-accepted .ensures in
-    let u : isSolved r ≡ false = sym (c .before .is-solved .ensures) ∙ c .if1 .left in
-    predicted-within (a .model) i (held s) _ r f
-    (unsolved-predictions (a .model) i _ _ r f u (now (a .predicted)))
-    (unsolved-errors (a .model) i _ _ r f u (now (a .error)))
+    let x = c .before .before in
+    let p = x .before .before .before .before .before in
+    let o = p .before .before .before in
+    let a = s o .args in
+    let i : Input = passed (s o) in
+    let f = fitted o .fit-accepted .ensures in
+    let d = o .order in
+    let w = p .write-predictions in
+    let new : List Float = w .last .1 .1 .1 .1 .1 .1 .1 .1 .0 in
+    predicted-within (a .model) i (held (s o)) _ _ f
+    (solved-count (a .model) i _ _ (r o) f (solved o) (d .result) (d .ensures) (w .result) (w .ensures .1))
+    (solved-predictions (a .model) i _ _ (r o) f (solved o) (d .result) (d .ensures) (now (a .predicted)) new
+    (w .ensures .0))
+    (solved-errors (a .model) i _ _ (r o) f (solved o) (d .result) (d .ensures) (now (a .predicted)) new
+    (w .ensures .0) (now (a .error)) _ (s o .pre .0 .observed-long) (x .write-errors .ensures))
 
 pub predict-accepted-spec : {M : Type 1} → statement M
 predict-accepted-spec =
@@ -155,16 +162,16 @@ predict-accepted-spec =
     (tie.spec
     fit-accepted-requires
     is-solved-requires
+    same-length
+    same-length-2
+    returns
     order-requires
     slice-reshare-prefix-write-predictions
     slice-aggregate-write-predictions
     write-predictions-requires
     write-errors-requires
-    same-length
-    same-length-2
     same-length-3
     same-length-4
-    returns
     same-length-5
     same-length-6
     returns-2)

@@ -1,68 +1,90 @@
 -- `models::prediction::write_predictions` meets its contract. The loop's invariant: the first i cells are the
--- predictions of the first i rows, and the others are as they were.
+-- predictions of the first i rows, the others are as they were, and the count is of those rows.
 use mathlib.Core.Path.{_≡_, refl, sym, ap, _∙_}
+use mathlib.Core.Bool.{not}
 use mathlib.Core.List.{List, _++_, map}
-use Prim.Native.Nat.{ℕ, _-_, _≤_, _<_}
+use Prim.Native.Nat.{ℕ, _+_, _-_, _≤_, _<_}
 use native.Mathlib.Omega.{arith}
 use denote.Ref.{now}
 use lib.Ieee.{Float}
 use lib.ListN.{length, getD, take, drop, length-set}
-use Rattle.status.specs.Limits.{maxOrder, maxLetters}
+use lib.Seq.{take-all}
+use mir.Val.{boolByte}
+use Rattle.status.specs.Limits.{maxOrder, maxLetters, maxRows}
 use Rattle.peptide.specs.Table.{Table}
+use Rattle.embedding.specs.Count.{howMany}
 use Rattle.embedding.specs.Design.{design}
+use Rattle.embedding.specs.declared.Model.{Model}
 use Rattle.regression.specs.Regression.{dot}
-use Rattle.model_fit.specs.Input.{tableOf, tableAt, queryOf, queries}
+use Rattle.model_fit.specs.Input.{Query, tableOf, tableAt, queryOf, queries}
 use Rattle.model_fit.specs.Samples.{designOf}
 use Rattle.model_fit.specs.Shared.{Listed}
 use Rattle.matrix.proofs.Lists.{overwrite-all}
-use Rattle.model_fit.proofs.Rows.{order-max, looked-short, looked-up}
+use Rattle.model_fit.proofs.Rows.{order-max, looked-short, looked-up, length-queries}
 use Rattle.model_fit.proofs.Status.{listed}
-use Rattle.models.specs.Prediction.{predictionOf}
-use Rattle.models.proofs.Writing.{write-next, length-predictions, prediction-at}
+use Rattle.models.specs.Prediction.{boundedOf, predictionOf, inexactIn}
+use Rattle.models.proofs.Writing.{write-next, howMany-first, count-fits, length-predictions}
+use Rattle.models.proofs.Writing.{bounded-at, prediction-at, inexact-next}
 use borrow.Author.Needs.{needs}
 use Rattle.models.proofs.prediction.write_predictions.Statement.{statement}
 use Rattle.models.proofs.prediction.write_predictions.Tie as tie
 
 abbrev Inv-loop : tie.InvT-loop
-Inv-loop model peptide charge letters offsets masses logs beta predicted₀ hi row₀ i₀ i-end predicted row i =
-    let new = map (predictionOf model (tableOf letters offsets masses logs) beta) (queries peptide charge) in
+Inv-loop model peptide charge letters offsets masses logs beta predicted₀ hi n₀ row₀ i₀ i-end predicted inexact row i =
+    let table = tableOf letters offsets masses logs in
+    let new = map (predictionOf model table beta) (queries peptide charge) in
     (i ≤ length peptide)
     × (predicted ≡ take i new ++ drop i predicted₀)
     × (length predicted ≡ length predicted₀)
     × (length row ≡ maxOrder)
+    × (inexact ≡ inexactIn model table beta (take i (queries peptide charge)))
 
 abbrev μ-loop : tie.MeasureT-loop
-μ-loop model peptide charge letters offsets masses logs beta predicted₀ hi row₀ i₀ i-end predicted row i =
+μ-loop model peptide charge letters offsets masses logs beta predicted₀ hi n₀ row₀ i₀ i-end predicted inexact row i =
     length peptide - i
 
--- what the function was passed, and what it is to write
+-- what the function was passed, and what it is to write and to count
 module _ (at : tie.At-loop Inv-loop μ-loop) where
   abbrev s : tie.Start Inv-loop μ-loop
   s = at .before .before .before .before .before .before .before .before .before .before
+
+  abbrev model : Model
+  model = s .args .model
+
+  abbrev peptides : List ℕ
+  peptides = now (s .args .peptide)
+
+  abbrev charges : List ℕ
+  charges = now (s .args .charge)
+
+  abbrev beta : List Float
+  beta = now (s .args .beta)
+
+  abbrev rows : List Query
+  rows = queries peptides charges
 
   abbrev table : Table
   table = let a = s .args in tableAt (a .letters) (a .offsets) (a .masses) (a .logs)
 
   abbrev new : List Float
-  new =
-      let a = s .args in
-      map (predictionOf (a .model) table (now (a .beta))) (queries (now (a .peptide)) (now (a .charge)))
+  new = map (predictionOf model table beta) rows
 
-  long : length new ≡ length (now (s .args .peptide))
-  long =
-      let a = s .args in
-      length-predictions (a .model) table (now (a .beta)) (now (a .peptide)) (now (a .charge))
+  long : length new ≡ length peptides
+  long = length-predictions model table beta peptides charges
+
+  abbrev count : List Query → ℕ
+  count = inexactIn model table beta
 
 -- a turn's row is one of the rows, and its peptide is in the table
 module _ (t : tie.In-loop Inv-loop μ-loop) where
   abbrev k : ℕ
   k = t .before .loop .i
 
-  inside : k < length (now (s (t .before) .args .peptide))
+  inside : k < length (peptides (t .before))
   inside = omega (arith, t .loop-test .taken)
 
-  has : Listed (table (t .before)) (getD (now (s (t .before) .args .peptide)) k 0)
-  has = listed (table (t .before)) (now (s (t .before) .args .peptide)) k (s (t .before) .pre .0) inside
+  has : Listed (table (t .before)) (getD (peptides (t .before)) k 0)
+  has = listed (table (t .before)) (peptides (t .before)) k (s (t .before) .pre .0) inside
 
 -- the place of the turn at which the peptide is looked up
 module _ (m : tie.After-mass-at Inv-loop μ-loop) where
@@ -81,23 +103,46 @@ module _ (m : tie.After-mass-at Inv-loop μ-loop) where
   short : length letters ≤ maxLetters
   short = looked-short (table at) _ letters (m .before .before .sequence .ensures) (has turn)
 
-  row-is : let a = s at .args in
-      design (a .model) letters (m .before .log-at .result) (m .mass-at .result) (charged .charge-at .result)
-      ≡ designOf (a .model) (table at)
-      (queryOf (getD (now (a .peptide)) (k turn) 0) (getD (now (a .charge)) (k turn) 0))
+  abbrev row : List Float
+  row = designOf (model at) (table at) (queryOf (getD (peptides at) (k turn) 0) (getD (charges at) (k turn) 0))
+
+  row-is : design (model at) letters (m .before .log-at .result) (m .mass-at .result) (charged .charge-at .result)
+      ≡ row
   row-is =
-      looked-up (table at) _ letters (m .before .before .sequence .ensures) (s at .args .model) _ _ _ _
+      looked-up (table at) _ letters (m .before .before .sequence .ensures) (model at) _ _ _ _
       (m .before .log-at .ensures) (m .mass-at .ensures) (charged .charge-at .ensures)
 
--- and at which its prediction is known, as the write sees it
-abbrev looked : tie.After-narrow Inv-loop μ-loop → tie.After-mass-at Inv-loop μ-loop
-looked c = c .before .before .before .before .before
+-- and at which its prediction is known, as the write and the count see it
+module _ (c : tie.After-narrow Inv-loop μ-loop) where
+  abbrev looked : tie.After-mass-at Inv-loop μ-loop
+  looked = c .before .before .before .before .before
+
+  x-is : c .before .before .before .predict-peptide .result ≡ dot (row looked) (beta (at looked))
+  x-is =
+      c .before .before .before .predict-peptide .ensures .prediction
+      ∙ ap (λ (r : List Float). dot r (beta (at looked))) (row-is looked)
+
+  bounded-is : let l = at looked in c .before .clamp64 .result
+      ≡ boundedOf (model l) (table l) (beta l) (getD (rows l) (k (turn looked)) (queryOf 0 0))
+  bounded-is =
+      let l = at looked in
+      bounded-at (model l) (table l) (beta l) (peptides l) (charges l) (k (turn looked)) _ _ _ (inside (turn looked))
+      x-is (l .before .largest .ensures) (c .before .clamp64 .ensures)
+
+  count-is : let l = at looked in l .loop .inexact + boolByte (not (c .narrow .result .exact))
+      ≡ count l (take (k (turn looked) + 1) (rows l))
+  count-is =
+      let l = at looked in
+      inexact-next (model l) (table l) (beta l) (rows l) (k (turn looked)) (queryOf 0 0) _ _ _
+      (omega (arith, length-queries (peptides l) (charges l), inside (turn looked)))
+      bounded-is (c .narrow .ensures .1) (l .loop .inv .4)
 
 largest-requires : tie.Need-largest-requires Inv-loop μ-loop
 largest-requires c κs = search needs
 
 loop-holds : tie.Need-loop-holds Inv-loop μ-loop
-loop-holds c = (search needs, refl, refl, refl)
+unfolding howMany
+loop-holds c = (search needs, refl, refl, refl, refl)
 
 charge-at-requires : tie.Need-charge-at-requires Inv-loop μ-loop
 charge-at-requires c κs = search needs
@@ -137,7 +182,19 @@ mul-predicted c = search needs
 slice-write-predicted : tie.Need-slice-write-predicted Inv-loop μ-loop
 slice-write-predicted c =
     let m = looked c in
-    omega (arith, at m .loop .inv .2, inside (turn m), s (at m) .pre .1)
+    omega (arith, at m .loop .inv .2, inside (turn m), s (at m) .pre .1 .1)
+
+cast-inexact : tie.Need-cast-inexact Inv-loop μ-loop
+cast-inexact c = search needs
+
+add-inexact : tie.Need-add-inexact Inv-loop μ-loop
+add-inexact c =
+    let m = looked (c .before) in
+    let l = at m in
+    let counted : count l (take (k (turn m)) (rows l)) ≤ k (turn m) = howMany-first _ (rows l) (k (turn m)) in
+    let few : l .loop .inexact ≤ k (turn m) = omega (arith, l .loop .inv .4) in
+    let h : k (turn m) < maxRows = omega (arith, inside (turn m), s l .pre .1 .0) in
+    search (count-fits, few, h)
 
 add-i : tie.Need-add-i Inv-loop μ-loop
 add-i c = search needs
@@ -147,25 +204,23 @@ loop-less c = search needs
 
 loop-again : tie.Need-loop-again Inv-loop μ-loop
 loop-again c =
-    let m = looked c in
-    let l = at m .loop in
-    let a = s (at m) .args in
-    let beta : List Float = now (a .beta) in
-    let n = long (at m) in
+    let n = c .before in
+    let m = looked n in
+    let t = at m in
+    let l = t .loop in
+    let old : List Float = now (s t .args .predicted) in
+    let e = long t in
     let h = inside (turn m) in
-    let p : length (now (a .peptide)) ≤ length (now (a .predicted)) = s (at m) .pre .1 in
-    let x = c .before .before .before .predict-peptide in
-    let hi = at m .before .largest in
+    let p : length (peptides t) ≤ length old = s t .pre .1 .1 in
     let v =
-    prediction-at (a .model) (table (at m)) beta (now (a .peptide)) (now (a .charge)) (l .i) (x .result) (hi .result)
-    (c .before .clamp64 .result) (c .narrow .result) h
-    (x .ensures .prediction ∙ ap (λ (r : List Float). dot r beta) (row-is m))
-    (hi .ensures) (c .before .clamp64 .ensures) (c .narrow .ensures) in (
+    prediction-at (model t) (table t) (beta t) (rows t) (l .i) (queryOf 0 0) _ _ (bounded-is n)
+    (n .narrow .ensures .0) in (
       omega (arith, h),
-      write-next (new (at m)) (now (a .predicted)) (l .predicted) (l .i) (c .narrow .result) _
+      write-next (new t) old (l .predicted) (l .i) (n .narrow .result .value) _
           (omega arith) (omega arith) (l .inv .1) v,
       simp length-set (l .inv .2),
-      x .kept .1 .1 .1 .1 .1 .1 .0 ∙ l .inv .3,
+      n .before .before .before .predict-peptide .kept .1 .1 .1 .1 .1 .1 .0 ∙ l .inv .3,
+      count-is n,
     )
 
 same-length : tie.Need-same-length Inv-loop μ-loop
@@ -176,8 +231,12 @@ returns c =
     let at = c .before in
     let l = at .loop in
     let n = long at in
-    l .inv .1
-    ∙ overwrite-all (new at) (now (s at .args .predicted)) (l .i) (omega (arith, l .inv .0, c .loop-test .left))
+    let q = length-queries (peptides at) (charges at) in (
+      l .inv .1
+          ∙ overwrite-all (new at) (now (s at .args .predicted)) (l .i) (omega (arith, l .inv .0, c .loop-test .left)),
+      l .inv .4
+          ∙ ap (count at) (take-all (l .i) (rows at) (omega (arith, l .inv .0, c .loop-test .left))),
+    )
 
 pub write-predictions-spec : {M : Type 1} → statement M
 write-predictions-spec =
@@ -199,6 +258,8 @@ write-predictions-spec =
     narrow-requires
     mul-predicted
     slice-write-predicted
+    cast-inexact
+    add-inexact
     add-i
     loop-less
     loop-again

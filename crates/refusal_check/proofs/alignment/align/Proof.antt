@@ -26,6 +26,15 @@ slice-aggregate-global-alignment-5 c = search needs
 slice-aggregate-global-alignment-6 : tie.Need-slice-aggregate-global-alignment-6
 slice-aggregate-global-alignment-6 c = search needs
 
+slice-aggregate-global-alignment-7 : tie.Need-slice-aggregate-global-alignment-7
+slice-aggregate-global-alignment-7 c = search needs
+
+slice-aggregate-global-alignment-8 : tie.Need-slice-aggregate-global-alignment-8
+slice-aggregate-global-alignment-8 c = search needs
+
+slice-aggregate-global-alignment-9 : tie.Need-slice-aggregate-global-alignment-9
+slice-aggregate-global-alignment-9 c = search needs
+
 global-alignment-requires : tie.Need-global-alignment-requires
 global-alignment-requires c κs = search needs
 
@@ -61,6 +70,9 @@ align-spec =
     slice-aggregate-global-alignment-4
     slice-aggregate-global-alignment-5
     slice-aggregate-global-alignment-6
+    slice-aggregate-global-alignment-7
+    slice-aggregate-global-alignment-8
+    slice-aggregate-global-alignment-9
     global-alignment-requires
     number-requires
     write-token-requires

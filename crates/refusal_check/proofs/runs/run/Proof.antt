@@ -62,6 +62,15 @@ slice-aggregate-run-17 c = search needs
 slice-aggregate-run-18 : tie.Need-slice-aggregate-run-18
 slice-aggregate-run-18 c = search needs
 
+slice-aggregate-run-19 : tie.Need-slice-aggregate-run-19
+slice-aggregate-run-19 c = search needs
+
+slice-aggregate-run-20 : tie.Need-slice-aggregate-run-20
+slice-aggregate-run-20 c = search needs
+
+slice-aggregate-run-21 : tie.Need-slice-aggregate-run-21
+slice-aggregate-run-21 c = search needs
+
 run-requires : tie.Need-run-requires
 run-requires c κs = search needs
 
@@ -112,6 +121,9 @@ run-spec =
     slice-aggregate-run-16
     slice-aggregate-run-17
     slice-aggregate-run-18
+    slice-aggregate-run-19
+    slice-aggregate-run-20
+    slice-aggregate-run-21
     run-requires
     write-numbers-requires
     write-workspace-requires

@@ -8,11 +8,11 @@ use Rattle.zorkamai.proofs.answers.of_run.Tie as tie
 enum-known-a : tie.Need-enum-known-a
 enum-known-a c = search needs
 
-of-outcome-requires : tie.Need-of-outcome-requires
-of-outcome-requires c κs = search needs
+of-prediction-requires : tie.Need-of-prediction-requires
+of-prediction-requires c κs = search needs
 
-of-outcome-requires-2 : tie.Need-of-outcome-requires-2
-of-outcome-requires-2 c κs = search needs
+of-prediction-requires-2 : tie.Need-of-prediction-requires-2
+of-prediction-requires-2 c κs = search needs
 
 enum-known-a-2 : tie.Need-enum-known-a-2
 enum-known-a-2 c = search needs
@@ -25,7 +25,7 @@ only-requires-2 c κs = search needs
 
 returns : tie.Need-returns
 returns c =
-    cc (c .before .of-outcome .ensures, c .of-outcome2 .ensures)
+    cc (c .before .of-prediction .ensures, c .of-prediction2 .ensures)
     ∙ sym (ap ofRun (c .before .before .before .a .given .1))
 
 returns-2 : tie.Need-returns-2
@@ -37,8 +37,8 @@ of-run-spec =
     tie.close
     (tie.spec
     enum-known-a
-    of-outcome-requires
-    of-outcome-requires-2
+    of-prediction-requires
+    of-prediction-requires-2
     enum-known-a-2
     only-requires
     only-requires-2
