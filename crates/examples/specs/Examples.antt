@@ -314,8 +314,8 @@ examples =
       given = bits binary64 (cellsAt Retention (ascii "BJ") 0 1 ++ cellsAt Mobility (ascii "BJ") 0 1);
       said = whole (2 ∷ 2 ∷ []);
     }
-    -- predictions of the logs 0.5, 0.1, a NaN, 1.1, which is clamped to 1.0, and -0.25, which is clamped to 0.0: 0.1 and
-    -- the NaN are counted
+    -- predictions of the logs 0.5, 0.1, a NaN, 1.1, which is clamped to 1.0, and -0.25, which is clamped to 0.0: 0.1
+    -- and the NaN are counted
     ∷ record {
       given =
           inexactLogs

@@ -1,6 +1,6 @@
 -- When narrowing loses nothing: just where an f32 holds the value, and that is no NaN.
 use mathlib.Core.Path.{_≡_, refl, sym, ap, _∙_, subst}
-use mathlib.Core.Bool.{Bool, true, false, not, _&&_, _||_, Bool·beq, cond, false≢true}
+use mathlib.Core.Bool.{Bool, true, false, _&&_, _||_, Bool·beq, cond, false≢true}
 use Prim.Native.Nat.{ℕ, zero, suc, _-_, _+_, _*_, _/_, _^_}
 use lib.IntN.{ℤ}
 use lib.Dec.{T, eqb, ltb}

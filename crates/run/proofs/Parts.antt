@@ -27,7 +27,6 @@ use Rattle.model_fit.specs.Input.{Input as ModelInput}
 use Rattle.model_fit.specs.Samples.{fitOfInput}
 use Rattle.models.specs.Prediction.{predictions, errors, inexact}
 use Rattle.models.specs.Call.{PredictSlices, PredictCall, predictStatus, predictFilled, predictOutcome, predictAnswerOf}
-use Rattle.models.specs.declared.PredictOutcome.{PredictOutcome}
 use Rattle.models.specs.declared.PredictAnswer.{PredictAnswer}
 use Rattle.models.specs.declared.PredictAnswer.the-variants.{Predicted}
 use Rattle.run.specs.Fitted.{RowOutcome, obsOf, target, longest, fileRecords, fitted, outcome}

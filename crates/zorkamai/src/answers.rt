@@ -1,7 +1,17 @@
 // The answers of the entry points as hosts see them: an enum becomes its status and the values of its case, and 0 for
 // what the case has not.
 ghost use mathlib.Core.Path.{_≡_};
-ghost use Rattle.zorkamai.specs.Answers.{ofSolve, ofAlign, ofPrediction, ofFit, ofPredict, ofRun, ofFound, ofTime, ofStep};
+ghost use Rattle.zorkamai.specs.Answers.{
+  ofSolve,
+  ofAlign,
+  ofPrediction,
+  ofFit,
+  ofPredict,
+  ofRun,
+  ofFound,
+  ofTime,
+  ofStep,
+};
 use crate::Answer;
 use crate::CellAnswer;
 use crate::RecordAnswer;

@@ -3,7 +3,6 @@ use mathlib.Core.Path.{ap}
 use mathlib.Core.List.{[], flatten}
 use native.Mathlib.Omega.{arith}
 use denote.Ref.{now}
-use lib.ListN.{length}
 use Rattle.text.proofs.Writing.{wrote-nothing, wrote-then}
 use Rattle.align_output.specs.Output.{printedIn, acceptedText}
 use Rattle.align_output.specs.declared.Printed.{Printed}
