@@ -37,28 +37,35 @@ static void alignment(void) {
     double workspace[6];
     float max_rt[2], slope[2], intercept[2], aligned[6];
     uint32_t used[2];
+    bool max_rt_exact[2], slope_exact[2], intercept_exact[2];
 
     uint8_t status = zorkamai_align(
-        file, 6, peptide, 6, label, 6, q, 6, rt, 6, 2, 3, workspace, 6,
-        max_rt, 2, slope, 2, intercept, 2, used, 2, aligned, 6);
+        file, 6, peptide, 6, label, 6, q, 6, rt, 6, 2, 3, workspace, 6, max_rt, 2, slope, 2, intercept, 2, used, 2,
+        max_rt_exact, 2, slope_exact, 2, intercept_exact, 2, aligned, 6);
     expect(status == 0, "the alignment is accepted");
     expect(max_rt[0] == 10.0f && max_rt[1] == 20.0f, "the longest times are 10 and 20");
+    expect(max_rt_exact[0] && max_rt_exact[1], "and lost nothing where they were narrowed");
+    expect(!slope_exact[1] && !intercept_exact[1], "the line of file 1 did");
     expect(used[0] == 3 && used[1] == 2, "three peptides carry the line of file 0, two that of file 1");
     expect(workspace[5] == 0.0, "the work room ends as 0");
     for (size_t i = 0; i < LEN(used); i++) {
         printf("file %zu: longest %g, y = %gx + %g by %u peptides\n", i, max_rt[i], slope[i], intercept[i], used[i]);
+        printf("file %zu: max_rt_exact %d, slope_exact %d, intercept_exact %d\n",
+               i, max_rt_exact[i], slope_exact[i], intercept_exact[i]);
     }
     for (size_t i = 0; i < LEN(aligned); i++) {
         printf("file %u peptide %u: %g -> %g\n", file[i], peptide[i], rt[i], aligned[i]);
     }
 
     const zorkamai_alignment records[] = {
-        {max_rt[0], slope[0], intercept[0], used[0]}, {max_rt[1], slope[1], intercept[1], used[1]}};
+        {max_rt[0], slope[0], intercept[0], used[0], max_rt_exact[0], slope_exact[0], intercept_exact[0]},
+        {max_rt[1], slope[1], intercept[1], used[1], max_rt_exact[1], slope_exact[1], intercept_exact[1]}};
     zorkamai_record_answer record = zorkamai_record_of(records, LEN(records), 1);
     expect(record.status == 0 && record.max_rt == 20.0f, "file 1 has a record");
     expect(bits(record.slope) == bits(slope[1]), "with its slope");
     expect(bits(record.intercept) == bits(intercept[1]), "and its intercept");
     expect(record.used == 2, "and its number of peptides");
+    expect(record.max_rt_exact && !record.slope_exact && !record.intercept_exact, "and its flags");
     expect(zorkamai_record_of(records, LEN(records), 2).status == 4, "file 2 has none");
     zorkamai_time_answer time = zorkamai_aligned_time(records, LEN(records), 1, 4.0f);
     expect(time.status == 0 && bits(time.aligned) == bits(aligned[5]), "a row's time by the list");
@@ -66,11 +73,12 @@ static void alignment(void) {
 
     aligned[0] = -1.0f;
     used[0] = 77;
+    max_rt_exact[0] = false;
     status = zorkamai_align(
-        file, 6, peptide, 6, label, 6, q, 6, rt, 6, 1, 3, workspace, 6,
-        max_rt, 2, slope, 2, intercept, 2, used, 2, aligned, 6);
+        file, 6, peptide, 6, label, 6, q, 6, rt, 6, 1, 3, workspace, 6, max_rt, 2, slope, 2, intercept, 2, used, 2,
+        max_rt_exact, 2, slope_exact, 2, intercept_exact, 2, aligned, 6);
     expect(status == 4, "file 1 of 1 is refused");
-    expect(aligned[0] == -1.0f && used[0] == 77, "and changes nothing");
+    expect(aligned[0] == -1.0f && used[0] == 77 && !max_rt_exact[0], "and changes nothing");
 }
 
 static void models(void) {
@@ -93,11 +101,13 @@ static void models(void) {
         workspace, 9660, beta, 69, predicted, 3, error, 3);
     expect(a.status == 0 && a.n == 2, "retention is fitted to the two rows that train");
     expect(error[0] < 0.01f && error[1] < 0.01f, "and predicts them");
-    printf("retention: ridge %g, r2 %g, off by %g for the row outside\n", a.ridge, a.r2, error[2]);
+    printf("retention: ridge %g, r2 %g, off by %g for the row outside, inexact %u of 3\n",
+           a.ridge, a.r2, error[2], a.inexact);
     a = zorkamai_mobility_predict(
         peptide, 3, label, 3, q, 3, charge, 3, mobility, 3, letters, 8, offsets, 3, masses, 2,
         workspace, 20200, beta, 100, predicted, 3, error, 3);
     expect(a.status == 0 && a.n == 2 && error[0] < 0.01f, "and so is mobility");
+    printf("mobility: ridge %g, r2 %g, inexact %u of 3\n", a.ridge, a.r2, a.inexact);
     a = zorkamai_retention_fit(
         peptide, 3, label, 3, q, 3, aligned, 3, letters, 7, offsets, 3, masses, 2, logs, 2,
         workspace, 9660, beta, 69);
@@ -105,7 +115,7 @@ static void models(void) {
     a = zorkamai_mobility_fit(
         peptide, 1, label + 2, 1, q, 1, charge, 1, mobility, 1, letters, 8, offsets, 3, masses, 2,
         workspace, 20200, beta, 100);
-    expect(a.status == 8, "no row trains");
+    expect(a.status == 8 && a.inexact == 0, "no row trains");
 }
 
 static void whole_run(void) {
@@ -118,21 +128,26 @@ static void whole_run(void) {
     double retention_beta[69], mobility_beta[100];
     float max_rt[1], slope[1], intercept[1], aligned[1], time[1], time_error[1], ims[1], ims_error[1];
     uint32_t used[1];
+    bool max_rt_exact[1], slope_exact[1], intercept_exact[1];
 
     zorkamai_run_report r = zorkamai_run(
         file, 1, peptide, 1, label, 1, q, 1, rt, 1, charge, 1, mobility, 1, 1, letters, 4, offsets, 2,
-        masses, 1, logs, 1, workspace, 20200, max_rt, 1, slope, 1, intercept, 1, used, 1, aligned, 1,
+        masses, 1, logs, 1, workspace, 20200, max_rt, 1, slope, 1, intercept, 1, used, 1,
+        max_rt_exact, 1, slope_exact, 1, intercept_exact, 1, aligned, 1,
         retention_beta, 69, time, 1, time_error, 1, mobility_beta, 100, ims, 1, ims_error, 1);
     expect(r.status == 0 && r.retention.status == 0 && r.mobility.status == 0, "both models fit");
     expect(r.retention.n == 1 && r.mobility.n == 1, "to the one row");
     expect(max_rt[0] == 10.0f && aligned[0] == 1.0f, "whose time is the longest");
     expect(used[0] == 1, "and whose peptide carries the file's line");
     expect(time_error[0] < 0.01f && ims_error[0] < 0.01f, "and predict it");
+    expect(max_rt_exact[0] && slope_exact[0] && intercept_exact[0], "longest 10, slope 0 and intercept 1 are exact");
     r = zorkamai_run(
         file, 1, peptide, 1, label, 1, q, 1, rt, 1, charge, 1, mobility, 1, 1, letters, 4, offsets, 2,
-        masses, 1, logs, 1, workspace, 20199, max_rt, 1, slope, 1, intercept, 1, used, 1, aligned, 1,
+        masses, 1, logs, 1, workspace, 20199, max_rt, 1, slope, 1, intercept, 1, used, 1,
+        max_rt_exact, 1, slope_exact, 1, intercept_exact, 1, aligned, 1,
         retention_beta, 69, time, 1, time_error, 1, mobility_beta, 100, ims, 1, ims_error, 1);
     expect(r.status == 3 && r.retention.status == 3, "20,199 cells of work room are too few");
+    expect(r.retention.inexact == 0 && r.mobility.inexact == 0, "and nothing is counted");
 }
 
 static void column(void) {

@@ -105,6 +105,10 @@ fn main() -> Result<(), zorkamai::Error> {
     for (file, a) in alignments.iter().enumerate() {
         let (m, b) = (a.slope, a.intercept);
         println!("file {file}: longest {}, y = {m}x + {b} by {} peptides", a.max_rt, a.used);
+        println!(
+            "file {file}: max_rt_exact {}, slope_exact {}, intercept_exact {}",
+            a.max_rt_exact, a.slope_exact, a.intercept_exact
+        );
     }
     for f in &features {
         println!(
@@ -120,10 +124,10 @@ fn main() -> Result<(), zorkamai::Error> {
             f.delta_ims_model,
         );
     }
-    println!(
-        "retention: r2 {} on {} rows; mobility: r2 {}",
-        retention.r2, retention.n, mobility.r2
-    );
+    for (name, model) in [("retention", &retention), ("mobility", &mobility)] {
+        let (fit, rows) = (&model.fit, model.predicted.len());
+        println!("{name}: r2 {} on {} rows, inexact {} of {rows}", fit.r2, fit.n, model.inexact);
+    }
     assert!(features[..3].iter().zip(&features[3..]).all(|(a, b)| a.aligned_rt == b.aligned_rt));
     features[0].file_id = 9;
     println!("refused: {}", global_alignment(&mut features, 2).unwrap_err());

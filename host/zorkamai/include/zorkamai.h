@@ -2,8 +2,9 @@
  * libzorkamai.a, which `rt staticlib zorkamai` writes to target/staticlib.
  *
  * A slice is a pointer and the number of elements after it. The pointer is never NULL, also where the
- * number is 0, and a slice that is written overlaps no other. Beyond that a function takes whatever it is
- * handed: it answers a number of this table, and a refused call (1 to 7) changes no slice.
+ * number is 0, and a slice that is written overlaps no other. A flag that is handed in is 0 or 1, as C's bool
+ * is. Beyond that a function takes whatever it is handed: it answers a number of this table, and a refused
+ * call (1 to 7) changes no slice.
  *
  *   0  accepted
  *   1  columns that belong together, or a solver's sides against n * n and n * c, differ in length
@@ -19,7 +20,9 @@
  *
  * Room and outputs may be longer than needed: the rest is left as it was. Once the checks have passed the
  * needed work room ends as +0.0, also with 8 and 9; then no output is written. A NaN that is written or
- * returned is 7FC00000 or 7FF8000000000000. */
+ * returned is 7FC00000 or 7FF8000000000000.
+ *
+ * A float is exact if it equals the double that it was narrowed from. NaN equals nothing. */
 #ifndef ZORKAMAI_H
 #define ZORKAMAI_H
 
@@ -31,26 +34,33 @@
 extern "C" {
 #endif
 
-/* A file's record: its longest time, the line that aligns its times, and the number of kept peptides of the
- * file, whose times carry the line. Without any, used is 0, slope 1 and intercept 0. A peptide that training
- * rows have is kept if the mean of its times, as shares of the files' longest, is a normal number. */
+/* A file's record: its longest time, the line that aligns its times, the number of kept peptides of the file,
+ * whose times carry the line, and whether each of the three floats is exact. Without kept peptides used is 0,
+ * slope 1 and intercept 0. A peptide that training rows have is kept if the mean of its times, as shares of the
+ * files' longest, is a normal number. A longest time is not exact where a time is 2^32 or longer: it is then
+ * 4,294,967,295. */
 typedef struct {
     float max_rt;
     float slope;
     float intercept;
     uint32_t used;
+    bool max_rt_exact;
+    bool slope_exact;
+    bool intercept_exact;
 } zorkamai_alignment;
 
-/* The answer of the solver or of a fit: its number and, if that is 0, the ridge, and of a fit r2 and the
- * number of training rows. */
+/* The answer of the solver, of a fit or of a prediction: its number and, if that is 0, the ridge; of a fit and
+ * of a prediction r2 and the number of training rows; of a prediction the number of rows whose prediction is
+ * not exact, NaN among them. inexact is 0 with any number but 0, and for the solver and a fit alone. */
 typedef struct {
     uint8_t status;
     double ridge;
     double r2;
     uint32_t n;
+    uint32_t inexact;
 } zorkamai_answer;
 
-/* The answer of a run: its number, and the answer of each model's fit. */
+/* The answer of a run: its number, and the answer of each model's prediction. */
 typedef struct {
     uint8_t status;
     zorkamai_answer retention;
@@ -64,6 +74,9 @@ typedef struct {
     float slope;
     float intercept;
     uint32_t used;
+    bool max_rt_exact;
+    bool slope_exact;
+    bool intercept_exact;
 } zorkamai_record_answer;
 
 /* A row's aligned time, if the number is 0. */
@@ -86,15 +99,17 @@ zorkamai_answer zorkamai_solve(
     double *workspace, size_t workspace_len, double *solution, size_t solution_len);
 
 /* Aligns the rows' times: a row has a file, a peptide, a label, a q and a time. Needs peptides * files
- * cells of workspace, a cell for each file of max_rt, slope, intercept and used, the fields of the files'
- * records, and one for each row of aligned. */
+ * cells of workspace, a cell for each file of the seven columns from max_rt to intercept_exact, the fields of
+ * the files' records, and one for each row of aligned. */
 uint8_t zorkamai_align(
     const uint32_t *file, size_t file_len, const uint32_t *peptide, size_t peptide_len,
     const int32_t *label, size_t label_len, const float *q, size_t q_len,
     const float *rt, size_t rt_len, size_t files, size_t peptides,
     double *workspace, size_t workspace_len, float *max_rt, size_t max_rt_len,
     float *slope, size_t slope_len, float *intercept, size_t intercept_len,
-    uint32_t *used, size_t used_len, float *aligned, size_t aligned_len);
+    uint32_t *used, size_t used_len, bool *max_rt_exact, size_t max_rt_exact_len,
+    bool *slope_exact, size_t slope_exact_len, bool *intercept_exact, size_t intercept_exact_len,
+    float *aligned, size_t aligned_len);
 
 /* Fits the retention model to the aligned times of the training rows: those with label 1 and a q of at most
  * 0.01. Peptide i has the letters from offsets[i] to offsets[i + 1], a mass, and the log ln(1 + mass). Needs
@@ -136,8 +151,8 @@ zorkamai_answer zorkamai_mobility_predict(
     float *predicted, size_t predicted_len, float *error, size_t error_len);
 
 /* The alignment, both fits on it, and the predictions and errors of each model that fits. Needs of workspace the
- * larger of peptides * files and 20,200 cells, a cell for each file of max_rt, slope, intercept and used, 69 and
- * 100 of the coefficients, and one for each row of the others. */
+ * larger of peptides * files and 20,200 cells, a cell for each file of the seven columns from max_rt to
+ * intercept_exact, 69 and 100 of the coefficients, and one for each row of the others. */
 zorkamai_run_report zorkamai_run(
     const uint32_t *file, size_t file_len, const uint32_t *peptide, size_t peptide_len,
     const int32_t *label, size_t label_len, const float *q, size_t q_len,
@@ -147,8 +162,9 @@ zorkamai_run_report zorkamai_run(
     const float *masses, size_t masses_len, const double *logs, size_t logs_len,
     double *workspace, size_t workspace_len, float *max_rt, size_t max_rt_len,
     float *slope, size_t slope_len, float *intercept, size_t intercept_len,
-    uint32_t *used, size_t used_len, float *aligned, size_t aligned_len,
-    double *retention_beta, size_t retention_beta_len,
+    uint32_t *used, size_t used_len, bool *max_rt_exact, size_t max_rt_exact_len,
+    bool *slope_exact, size_t slope_exact_len, bool *intercept_exact, size_t intercept_exact_len,
+    float *aligned, size_t aligned_len, double *retention_beta, size_t retention_beta_len,
     float *retention_predicted, size_t retention_predicted_len, float *retention_error, size_t retention_error_len,
     double *mobility_beta, size_t mobility_beta_len, float *mobility_predicted, size_t mobility_predicted_len,
     float *mobility_error, size_t mobility_error_len);

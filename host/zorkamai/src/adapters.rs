@@ -8,7 +8,7 @@
 //!
 //! `examples/sage.rs` has a host with such a struct.
 
-use crate::{align, mobility, retention, Alignment, Error, Fit, PeptideTable, Row, Rows};
+use crate::{align, mobility, retention, Alignment, Error, PeptideTable, Predicted, Row, Rows};
 
 #[cfg(test)]
 mod tests;
@@ -47,8 +47,8 @@ pub trait Database {
     fn monoisotopic(&self, peptide_idx: u32) -> f32;
 }
 
-/// Sage's `global_alignment`: writes each row's aligned time, and gives a record for each file, with the number of
-/// peptides that carry its line, which sage's has not.
+/// Sage's `global_alignment`: writes each row's aligned time, and gives a record for each file, with what sage's has
+/// not: the number of peptides that carry its line, and whether its numbers are exact.
 pub fn global_alignment<F: Feature>(
     features: &mut [F],
     n_files: usize,
@@ -62,28 +62,31 @@ pub fn global_alignment<F: Feature>(
 }
 
 /// Sage's `predict` of the retention model, on the aligned times that the rows hold: writes each row's
-/// prediction and error if the model fits. Where sage answers `None`, this says why.
+/// prediction and error if the model fits, and gives them with the model. Where sage answers `None`, this says why.
 pub fn predict_retention<D: Database, F: Feature>(
     db: &D,
     features: &mut [F],
-) -> Result<Fit, Error> {
+) -> Result<Predicted, Error> {
     let (rows, peptides) = rows(features);
     let aligned: Vec<f32> = features.iter().map(F::aligned_rt).collect();
     let model = retention::predict(&rows, &aligned, &table(db, &peptides))?;
     for (i, feature) in features.iter_mut().enumerate() {
         feature.set_retention(model.predicted[i], model.error[i]);
     }
-    Ok(model.fit)
+    Ok(model)
 }
 
 /// Sage's `predict` of the mobility model: as [`predict_retention`].
-pub fn predict_mobility<D: Database, F: Feature>(db: &D, features: &mut [F]) -> Result<Fit, Error> {
+pub fn predict_mobility<D: Database, F: Feature>(
+    db: &D,
+    features: &mut [F],
+) -> Result<Predicted, Error> {
     let (rows, peptides) = rows(features);
     let model = mobility::predict(&rows, &table(db, &peptides))?;
     for (i, feature) in features.iter_mut().enumerate() {
         feature.set_mobility(model.predicted[i], model.error[i]);
     }
-    Ok(model.fit)
+    Ok(model)
 }
 
 /// The host's peptides of these numbers.

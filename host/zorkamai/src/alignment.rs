@@ -15,15 +15,19 @@ pub struct Aligned {
 
 /// Aligns the rows' times over the files: a line for each file that takes its times, as shares of the file's
 /// longest time, to the mean shares of the peptides that training rows name. [`Alignment::used`] says how many
-/// peptides carry a file's line.
+/// peptides carry a file's line, and three flags which of its numbers lost nothing where they were rounded to f32.
 ///
 /// ```
-/// use zorkamai::{align, Alignment, Row, Rows};
+/// use zorkamai::{align, Row, Rows};
 /// let row = Row { label: 1, rt: 10.0, ..Default::default() };
-/// let two = align(&Rows::from_iter([row]), 2, 1)?;
-/// assert_eq!(two.records[0], Alignment { max_rt: 10.0, slope: 0.0, intercept: 1.0, used: 1 });
-/// assert_eq!(two.records[1], Alignment { max_rt: 0.0, slope: 1.0, intercept: 0.0, used: 0 });
-/// assert_eq!(two.aligned, [1.0]);
+/// let far = Row { file: 1, rt: 5E9, ..Default::default() };
+/// let two = align(&Rows::from_iter([row, far]), 2, 1)?;
+/// let (a, b) = (two.records[0], two.records[1]);
+/// assert_eq!((a.max_rt, a.slope, a.intercept, a.used), (10.0, 0.0, 1.0, 1));
+/// assert!(a.max_rt_exact && a.slope_exact && a.intercept_exact);
+/// assert_eq!((b.max_rt, b.slope, b.intercept, b.used), (4_294_967_296.0, 1.0, 0.0, 0));
+/// assert!(!b.max_rt_exact); // the longest time is 4,294,967,295
+/// assert_eq!(two.aligned[0], 1.0);
 /// # Ok::<(), zorkamai::Error>(())
 /// ```
 pub fn align(rows: &Rows, files: usize, peptides: usize) -> Result<Aligned, Error> {
@@ -44,6 +48,9 @@ pub fn align(rows: &Rows, files: usize, peptides: usize) -> Result<Aligned, Erro
         &mut columns.slope,
         &mut columns.intercept,
         &mut columns.used,
+        &mut columns.max_rt_exact,
+        &mut columns.slope_exact,
+        &mut columns.intercept_exact,
         &mut aligned,
     );
     match number {
@@ -69,13 +76,18 @@ pub(crate) struct FileColumns {
     pub slope: Vec<f32>,
     pub intercept: Vec<f32>,
     pub used: Vec<u32>,
+    pub max_rt_exact: Vec<bool>,
+    pub slope_exact: Vec<bool>,
+    pub intercept_exact: Vec<bool>,
 }
 
 impl FileColumns {
     /// For so many records.
     pub fn new(records: usize) -> FileColumns {
         let [max_rt, slope, intercept] = [(); 3].map(|_| vec![0.0; records]);
-        FileColumns { max_rt, slope, intercept, used: vec![0; records] }
+        let used = vec![0; records];
+        let [max_rt_exact, slope_exact, intercept_exact] = [(); 3].map(|_| vec![false; records]);
+        FileColumns { max_rt, slope, intercept, used, max_rt_exact, slope_exact, intercept_exact }
     }
 
     /// The records that the columns hold.
@@ -85,6 +97,9 @@ impl FileColumns {
             slope: self.slope[i],
             intercept: self.intercept[i],
             used: self.used[i],
+            max_rt_exact: self.max_rt_exact[i],
+            slope_exact: self.slope_exact[i],
+            intercept_exact: self.intercept_exact[i],
         };
         (0..self.used.len()).map(record).collect()
     }
@@ -112,7 +127,7 @@ pub(crate) fn handed_in(rows: &Rows, files: usize, peptides: usize) -> Call<'_> 
 ///
 /// ```
 /// use zorkamai::{record_of, Alignment};
-/// let records = [Alignment { max_rt: 10.0, slope: 0.5, intercept: 0.25, used: 7 }];
+/// let records = [Alignment { max_rt: 10.0, used: 7, max_rt_exact: true, ..Default::default() }];
 /// assert_eq!(record_of(&records, 0)?, records[0]);
 /// assert_eq!(record_of(&records, 1).unwrap_err().number(), 4);
 /// # Ok::<(), zorkamai::Error>(())
@@ -125,6 +140,9 @@ pub fn record_of(records: &[Alignment], file: u32) -> Result<Alignment, Error> {
             slope: found.slope,
             intercept: found.intercept,
             used: found.used,
+            max_rt_exact: found.max_rt_exact,
+            slope_exact: found.slope_exact,
+            intercept_exact: found.intercept_exact,
         }),
         _ => Err(no_record(records, file)),
     }
@@ -134,7 +152,7 @@ pub fn record_of(records: &[Alignment], file: u32) -> Result<Alignment, Error> {
 ///
 /// ```
 /// use zorkamai::{aligned_time, Alignment};
-/// let records = [Alignment { max_rt: 10.0, slope: 0.5, intercept: 0.25, used: 7 }];
+/// let records = [Alignment { max_rt: 10.0, slope: 0.5, intercept: 0.25, ..Default::default() }];
 /// assert_eq!(aligned_time(&records, 0, 5.0)?, 0.5);
 /// # Ok::<(), zorkamai::Error>(())
 /// ```

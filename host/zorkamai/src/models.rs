@@ -26,11 +26,14 @@ pub struct Predicted {
     pub predicted: Vec<f32>,
     /// The absolute difference of each row's prediction and what was observed.
     pub error: Vec<f32>,
+    /// How many of the predictions are not exact: each is worked out as an f64, and the f32 does not equal that. NaN
+    /// equals nothing, so every NaN counts.
+    pub inexact: u32,
 }
 
 impl Fit {
     /// The fit of an answer, or why there is none.
-    pub(crate) fn of(answer: raw::Answer, beta: Vec<f64>, call: &Call) -> Result<Fit, Error> {
+    fn of(answer: raw::Answer, beta: Vec<f64>, call: &Call) -> Result<Fit, Error> {
         match answer.status {
             0 => Ok(Fit { ridge: answer.ridge, r2: answer.r2, n: answer.n as usize, beta }),
             number => Err(call.error(number)),
@@ -38,14 +41,36 @@ impl Fit {
     }
 }
 
-/// Calls a fit with work room and coefficients of these lengths.
-fn fitted(
+impl Predicted {
+    /// The fit of an answer with the predictions and the errors, or why there is none.
+    pub(crate) fn of(
+        answer: raw::Answer,
+        beta: Vec<f64>,
+        predicted: Vec<f32>,
+        error: Vec<f32>,
+        call: &Call,
+    ) -> Result<Predicted, Error> {
+        let fit = Fit::of(answer, beta, call)?;
+        Ok(Predicted { fit, predicted, error, inexact: answer.inexact })
+    }
+}
+
+/// Makes a call with work room and coefficients of these lengths, and gives its answer and the coefficients.
+fn called(
     (workspace, columns): (usize, usize),
+    call: impl FnOnce(&mut [f64], &mut [f64]) -> raw::Answer,
+) -> (raw::Answer, Vec<f64>) {
+    let (mut workspace, mut beta) = (vec![0.0; workspace], vec![0.0; columns]);
+    (call(&mut workspace, &mut beta), beta)
+}
+
+/// Calls a fit.
+fn fitted(
+    room: (usize, usize),
     handed_in: Call,
     call: impl FnOnce(&mut [f64], &mut [f64]) -> raw::Answer,
 ) -> Result<Fit, Error> {
-    let (mut workspace, mut beta) = (vec![0.0; workspace], vec![0.0; columns]);
-    let answer = call(&mut workspace, &mut beta);
+    let (answer, beta) = called(room, call);
     Fit::of(answer, beta, &handed_in)
 }
 
@@ -57,8 +82,8 @@ fn predicted(
 ) -> Result<Predicted, Error> {
     let n = handed_in.peptide.len();
     let (mut predicted, mut error) = (vec![0.0; n], vec![0.0; n]);
-    let fit = fitted(room, handed_in, |work, beta| call(work, beta, &mut predicted, &mut error))?;
-    Ok(Predicted { fit, predicted, error })
+    let (answer, beta) = called(room, |work, beta| call(work, beta, &mut predicted, &mut error));
+    Predicted::of(answer, beta, predicted, error, &handed_in)
 }
 
 /// What a model's call hands in; `others` are its columns besides those that both models take.
@@ -119,6 +144,8 @@ pub mod retention {
     /// let rows = Rows::from_iter([row(0), row(1)]);
     /// let model = retention::predict(&rows, &[0.25, 0.75], &table)?;
     /// assert!(model.error.iter().all(|e| *e < 0.01));
+    /// // A model of zeros predicts zeros, which are exact.
+    /// assert_eq!(retention::predict(&rows, &[0.0, 0.0], &table)?.inexact, 0);
     /// # Ok::<(), zorkamai::Error>(())
     /// ```
     pub fn predict(rows: &Rows, aligned: &[f32], table: &PeptideTable) -> Result<Predicted, Error> {
@@ -173,8 +200,12 @@ pub mod mobility {
     /// use zorkamai::{mobility, PeptideTable, Row, Rows};
     /// let mut table = PeptideTable::default();
     /// table.push(b"ACDK", 435.18);
-    /// let rows = Rows::from_iter([Row { label: 1, charge: 2, mobility: 0.9, ..Default::default() }]);
-    /// assert!(mobility::predict(&rows, &table)?.error[0] < 0.01);
+    /// table.push(b"", 18.01); // its shares of letters are NaN, and so is its prediction
+    /// let row = Row { label: 1, charge: 2, mobility: 0.9, ..Default::default() };
+    /// let empty = Row { peptide: 1, label: -1, ..row };
+    /// let model = mobility::predict(&Rows::from_iter([row, empty]), &table)?;
+    /// assert!(model.error[0] < 0.01 && model.predicted[1].is_nan());
+    /// assert_eq!(model.inexact, 2);
     /// # Ok::<(), zorkamai::Error>(())
     /// ```
     pub fn predict(rows: &Rows, table: &PeptideTable) -> Result<Predicted, Error> {

@@ -5,7 +5,8 @@
 //! written may be longer than needed, and keeps the rest. A refused call (1 to 7) changes no slice; after
 //! any other the needed cells of `workspace` are +0.0.
 
-/// A file's record: its longest time, the line that aligns its times, and how many peptides carry the line.
+/// A file's record: its longest time, the line that aligns its times, how many peptides carry the line, and whether
+/// the three floats are exact: each was worked out as an f64, and its flag says whether the f32 equals that.
 #[repr(C)]
 #[derive(Copy, Clone, Debug, Default, PartialEq)]
 pub struct Alignment {
@@ -16,10 +17,16 @@ pub struct Alignment {
     /// the intercept 0. A peptide that training rows have is kept if the mean of its times, as shares of the files'
     /// longest, is a normal number.
     pub used: u32,
+    /// Whether `max_rt` is exact. It is not where a time is 2^32 or longer: then the f64 is 4,294,967,295.
+    pub max_rt_exact: bool,
+    /// Whether `slope` is exact.
+    pub slope_exact: bool,
+    /// Whether `intercept` is exact.
+    pub intercept_exact: bool,
 }
 
-/// The answer of the solver or of a fit: its number and, if that is 0, the ridge, and of a fit r2 and the
-/// number of training rows.
+/// The answer of the solver, of a fit or of a prediction: its number and, if that is 0, the ridge; of a fit and of a
+/// prediction r2 and the number of training rows; of a prediction how many rows' predictions are not exact.
 #[repr(C)]
 #[derive(Copy, Clone, Debug, PartialEq)]
 pub struct Answer {
@@ -27,9 +34,12 @@ pub struct Answer {
     pub ridge: f64,
     pub r2: f64,
     pub n: u32,
+    /// The rows whose prediction, an f64 within its bounds, is not equal to the f32 that is written; NaN is equal to
+    /// nothing. 0 with any number but 0, and for the solver and a fit alone.
+    pub inexact: u32,
 }
 
-/// The answer of a run: its number, and the answer of each model's fit.
+/// The answer of a run: its number, and the answer of each model's prediction.
 #[repr(C)]
 #[derive(Copy, Clone, Debug, PartialEq)]
 pub struct RunReport {
@@ -47,6 +57,9 @@ pub struct RecordAnswer {
     pub slope: f32,
     pub intercept: f32,
     pub used: u32,
+    pub max_rt_exact: bool,
+    pub slope_exact: bool,
+    pub intercept_exact: bool,
 }
 
 /// A row's aligned time, if the number is 0.
@@ -89,7 +102,7 @@ macro_rules! functions {
                 $($arg: $(&[$read])? $(&mut [$written])? $($number)?),*
             ) -> $answer {
                 // Safe: each pointer and length is a slice's, the borrows keep written slices apart from the
-                // others, and the proved function takes any slices and numbers.
+                // others, a flag is 0 or 1 on either side, and the proved function takes any slices and numbers.
                 unsafe {
                     $symbol($(
                         $(<[$read]>::as_ptr($arg), <[$read]>::len($arg))?
@@ -109,12 +122,12 @@ functions! {
         left: &[f64], right: &[f64], n: usize, c: usize, workspace: &mut [f64], solution: &mut [f64],
     ) -> Answer = zorkamai_solve;
 
-    /// Aligns the rows' times. Needs peptides × files cells of `workspace`, one cell for each file of `max_rt`,
-    /// `slope`, `intercept` and `used`, the fields of the files' records, and one for each row of `aligned`.
+    /// Aligns the rows' times. Needs peptides × files cells of `workspace`, one cell for each file of the seven
+    /// columns from `max_rt` to `intercept_exact`, the fields of the files' records, and one for each row of `aligned`.
     pub fn align(
         file: &[u32], peptide: &[u32], label: &[i32], q: &[f32], rt: &[f32], files: usize, peptides: usize,
         workspace: &mut [f64], max_rt: &mut [f32], slope: &mut [f32], intercept: &mut [f32], used: &mut [u32],
-        aligned: &mut [f32],
+        max_rt_exact: &mut [bool], slope_exact: &mut [bool], intercept_exact: &mut [bool], aligned: &mut [f32],
     ) -> u8 = zorkamai_align;
 
     /// Fits the retention model to the aligned times of the training rows. Needs 9,660 cells of `workspace` and 69
@@ -150,13 +163,13 @@ functions! {
     ) -> Answer = zorkamai_mobility_predict;
 
     /// The alignment, both fits on it, and the predictions and errors of each model that fits. Needs of `workspace` the
-    /// larger of peptides × files and 20,200 cells, one cell for each file of `max_rt`, `slope`, `intercept` and
-    /// `used`, 69 and 100 of the coefficients, and one for each row of the others.
+    /// larger of peptides × files and 20,200 cells, one cell for each file of the seven columns from `max_rt` to
+    /// `intercept_exact`, 69 and 100 of the coefficients, and one for each row of the others.
     pub fn run(
         file: &[u32], peptide: &[u32], label: &[i32], q: &[f32], rt: &[f32], charge: &[u8], mobility: &[f32],
         files: usize, letters: &[u8], offsets: &[u32], masses: &[f32], logs: &[f64],
         workspace: &mut [f64], max_rt: &mut [f32], slope: &mut [f32], intercept: &mut [f32], used: &mut [u32],
-        aligned: &mut [f32],
+        max_rt_exact: &mut [bool], slope_exact: &mut [bool], intercept_exact: &mut [bool], aligned: &mut [f32],
         retention_beta: &mut [f64], retention_predicted: &mut [f32], retention_error: &mut [f32],
         mobility_beta: &mut [f64], mobility_predicted: &mut [f32], mobility_error: &mut [f32],
     ) -> RunReport = zorkamai_run;

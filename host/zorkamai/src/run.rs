@@ -2,7 +2,7 @@
 
 use crate::alignment::{self, room, Aligned, FileColumns};
 use crate::error::Call;
-use crate::models::{Fit, Predicted};
+use crate::models::Predicted;
 use crate::{mobility, raw, retention, Error, PeptideTable, Rows};
 
 /// What a run gives: a model that does not fit has its error.
@@ -56,6 +56,9 @@ pub fn run(rows: &Rows, files: usize, table: &PeptideTable) -> Result<Run, Error
         &mut columns.slope,
         &mut columns.intercept,
         &mut columns.used,
+        &mut columns.max_rt_exact,
+        &mut columns.slope_exact,
+        &mut columns.intercept_exact,
         &mut aligned,
         &mut time_beta,
         &mut time,
@@ -68,14 +71,10 @@ pub fn run(rows: &Rows, files: usize, table: &PeptideTable) -> Result<Run, Error
     if report.status != 0 {
         return Err(call.error(report.status));
     }
-    let model = |answer, beta, predicted, error| {
-        let fit = Fit::of(answer, beta, &call)?;
-        Ok(Predicted { fit, predicted, error })
-    };
     Ok(Run {
         aligned: Aligned { records: columns.records(), aligned },
-        retention: model(report.retention, time_beta, time, time_error),
-        mobility: model(report.mobility, ims_beta, ims, ims_error),
+        retention: Predicted::of(report.retention, time_beta, time, time_error, &call),
+        mobility: Predicted::of(report.mobility, ims_beta, ims, ims_error, &call),
     })
 }
 

@@ -49,14 +49,17 @@ fn three() {
     let mut none = [0.0; 0];
     let answer = zorkamai::raw::solve(&[1.0], &[1.0], 1, 1, &mut [0.0; 1], &mut none);
     assert_eq!(answer.status, 3);
-    let mut used = [7; 3];
-    assert_eq!((align_two_files(&mut used[..1]), used), (3, [7; 3]));
-    assert_eq!((align_two_files(&mut used), used), (0, [0, 0, 7]));
+    let (mut used, mut exact) = ([7; 3], [false; 3]);
+    assert_eq!((align_two_files(&mut used[..1], &mut exact), used), (3, [7; 3]));
+    assert_eq!((align_two_files(&mut used, &mut exact[..1]), exact), (3, [false; 3]));
+    assert_eq!((align_two_files(&mut used, &mut exact), used), (0, [0, 0, 7]));
+    assert_eq!(exact, [true, true, false]);
 }
 
-/// An alignment of two files without rows, with these cells for the counts.
-fn align_two_files(used: &mut [u32]) -> u8 {
+/// An alignment of two files without rows, with these cells for the counts and for the flags of the intercepts.
+fn align_two_files(used: &mut [u32], intercept_exact: &mut [bool]) -> u8 {
     let [mut max_rt, mut slope, mut intercept] = [[0.0; 2]; 3];
+    let [mut max_rt_exact, mut slope_exact] = [[false; 2]; 2];
     let (no_cells, no_times) = (&mut [], &mut []);
     zorkamai::raw::align(
         &[],
@@ -71,6 +74,9 @@ fn align_two_files(used: &mut [u32]) -> u8 {
         &mut slope,
         &mut intercept,
         used,
+        &mut max_rt_exact,
+        &mut slope_exact,
+        intercept_exact,
         no_times,
     )
 }

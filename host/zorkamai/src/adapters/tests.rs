@@ -3,7 +3,6 @@
 mod host;
 
 use super::*;
-use crate::Predicted;
 use host::{any_rows, plain_rows, Peptides, Psm, Rng, HELD};
 use std::fmt::Debug;
 
@@ -129,14 +128,12 @@ fn the_three_calls_pass_the_same_rows_and_table() {
 
         same(&global_alignment(&mut psms, 2), &Ok::<_, Error>(&aligned.records));
         same(&psms.iter().map(|psm| psm.aligned_rt).collect::<Vec<f32>>(), &aligned.aligned);
-        let fit = predict_retention(&Peptides, &mut psms);
-        same(&fit.as_ref(), &time.as_ref().map(|model| &model.fit));
+        same(&predict_retention(&Peptides, &mut psms), &time);
         same(
             &psms.iter().map(|psm| psm.retention).collect::<Vec<_>>(),
             &written(&time, rows.len()),
         );
-        let fit = predict_mobility(&Peptides, &mut psms);
-        same(&fit.as_ref(), &ims.as_ref().map(|model| &model.fit));
+        same(&predict_mobility(&Peptides, &mut psms), &ims);
         same(&psms.iter().map(|psm| psm.mobility).collect::<Vec<_>>(), &written(&ims, rows.len()));
         solved += (time.is_ok() && ims.is_ok()) as usize;
     }
