@@ -1,9 +1,10 @@
 //! Batches of rows through `global_alignment`.
 
+use crate::narrow::written_exact;
 use crate::text::{bits32, Output, Tokens};
 use sage::database::PeptideIx;
 use sage::ml::matrix::Matrix;
-use sage::ml::retention_alignment::{global_alignment, probe_times, Alignment};
+use sage::ml::retention_alignment::{global_alignment, probe_longest, probe_times, Alignment};
 use sage::scoring::Feature;
 
 /// A row's seven fields.
@@ -43,21 +44,26 @@ impl Row {
     }
 }
 
-/// A record and a number of kept peptides for each file, and the rows with their aligned times.
+/// For each file a record, its number of kept peptides, and whether its longest time, slope and intercept are exact;
+/// and the rows with their aligned times.
 pub struct Aligned {
     pub records: Vec<Alignment>,
     pub used: Vec<u32>,
+    pub exact: Vec<[bool; 3]>,
     pub features: Vec<Feature>,
 }
 
 impl Aligned {
-    /// Each file's longest time, slope, intercept and number of kept peptides, as patterns.
-    pub fn patterns(&self) -> Vec<[u64; 4]> {
-        let record = |(a, &used): (&Alignment, &u32)| {
+    /// Each file's longest time, slope, intercept and number of kept peptides, as patterns, and its three flags.
+    pub fn patterns(&self) -> Vec<[u64; 7]> {
+        let record = |i: usize| {
+            let a = &self.records[i];
             let [max_rt, slope, intercept] = [a.max_rt, a.slope, a.intercept].map(bits32);
-            [max_rt, slope, intercept, used as u64]
+            let [max_rt_exact, slope_exact, intercept_exact] = self.exact[i].map(u64::from);
+            let used = self.used[i] as u64;
+            [max_rt, slope, intercept, used, max_rt_exact, slope_exact, intercept_exact]
         };
-        self.records.iter().zip(&self.used).map(record).collect()
+        (0..self.records.len()).map(record).collect()
     }
 
     /// The rows' aligned times.
@@ -70,8 +76,29 @@ impl Aligned {
 pub fn align(files: usize, rows: &[Row]) -> Aligned {
     let mut features: Vec<Feature> = rows.iter().map(Row::feature).collect();
     let used = used(&probe_times(&features, files));
+    let longest = probe_longest(&features, files);
+    sage::take_lines();
     let records = global_alignment(&mut features, files);
-    Aligned { records, used, features }
+    let exact = exact(&records, &longest, &sage::take_lines());
+    Aligned { records, used, exact, features }
+}
+
+/// Whether the longest time, slope and intercept of each record equal the f64 that sage narrowed to them.
+fn exact(records: &[Alignment], longest: &[f64], lines: &[[f64; 2]]) -> Vec<[bool; 3]> {
+    assert_eq!(
+        [longest.len(), lines.len()],
+        [records.len(); 2],
+        "a longest time and a line a file"
+    );
+    let flags = |(i, a): (usize, &Alignment)| {
+        let [slope, intercept] = lines[i];
+        [
+            written_exact(longest[i], a.max_rt),
+            written_exact(slope, a.slope),
+            written_exact(intercept, a.intercept),
+        ]
+    };
+    records.iter().enumerate().map(flags).collect()
 }
 
 /// The kept peptides of each file: the finite cells of its column of the times.
@@ -135,10 +162,10 @@ pub fn write_rows(out: &mut Output, rows: &[Row], columns: Columns) {
     }
 }
 
-/// Writes the longest times, the slopes, the intercepts, the numbers of kept peptides and the aligned times.
+/// Writes the seven columns of the files' records and the aligned times.
 pub fn write_aligned(out: &mut Output, aligned: &Aligned) {
     let records = aligned.patterns();
-    for column in 0..4 {
+    for column in 0..7 {
         records.iter().for_each(|record| out.bits(record[column]));
     }
     aligned.features.iter().for_each(|f| out.f32(f.aligned_rt));

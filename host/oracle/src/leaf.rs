@@ -1,6 +1,7 @@
 //! Leaf functions: a record is an operation and three arguments, the answer one number.
 
 use crate::alignment::{self, Row};
+use crate::narrow::exact;
 use crate::text::{bits32, bits64, Output, Tokens};
 use sage::database::{IndexedDatabase, PeptideIx};
 use sage::mass::VALID_AA;
@@ -43,6 +44,7 @@ pub fn float(op: u64, [a, b, c]: [u64; 3]) -> Option<u64> {
         0x0B => bits64(x),
         0x0C => bits64(narrow as f64),
         0x0D => narrow.is_finite() as u64,
+        0x0E => exact(x) as u64,
         _ => return None,
     })
 }

@@ -6,6 +6,7 @@
 pub mod alignment;
 pub mod gen;
 pub mod leaf;
+pub mod narrow;
 pub mod program;
 pub mod rng;
 pub mod run;

@@ -1,10 +1,12 @@
 //! Whole runs: the alignment, both fits on it, and each fitted model's predictions and errors.
 
 use crate::alignment::{align, read_rows, write_aligned, write_rows, Aligned, Columns, Row};
+use crate::narrow::written_exact;
 use crate::solve::ridges;
 use crate::text::{bits64, Output, Tokens};
 use sage::database::IndexedDatabase;
-use sage::ml::{mobility_model, retention_model};
+use sage::ml::mobility_model::{self, MobilityModel};
+use sage::ml::retention_model::{self, RetentionModel};
 use sage::peptide::Peptide;
 use sage::scoring::Feature;
 
@@ -40,6 +42,10 @@ pub struct Run {
     pub aligned: Aligned,
     pub retention: Fit,
     pub mobility: Fit,
+    /// How many predictions of the retention model are not exact; 0 where it does not fit.
+    pub retention_inexact: usize,
+    /// The same of the mobility model.
+    pub mobility_inexact: usize,
 }
 
 /// The log that the retention model takes of a mass, as its source writes it.
@@ -52,13 +58,30 @@ pub fn run(batch: &Batch) -> Run {
     let db = IndexedDatabase { peptides: batch.peptides.clone() };
     let mut aligned = align(batch.files, &batch.rows);
     let features = &mut aligned.features;
-    let retention = fit_retention(&db, features);
-    let mobility = fit_mobility(&db, features);
+    let (retention, times) = fit_retention(&db, features);
+    let (mobility, mobilities) = fit_mobility(&db, features);
     let fitted = retention_model::predict(&db, features).is_some();
     assert_eq!(fitted, matches!(retention, Fit::Solved { .. }));
     let fitted = mobility_model::predict(&db, features).is_some();
     assert_eq!(fitted, matches!(mobility, Fit::Solved { .. }));
-    Run { aligned, retention, mobility }
+    let time = |model: &RetentionModel, f: &Feature| {
+        written_exact(model.predict_peptide(&db, f).clamp(0.0, 1.0), f.predicted_rt)
+    };
+    let ims = |model: &MobilityModel, f: &Feature| {
+        written_exact(model.predict_peptide(&db, f).clamp(0.0, 2.0), f.predicted_ims)
+    };
+    let retention_inexact = inexact(times, features, time);
+    let mobility_inexact = inexact(mobilities, features, ims);
+    Run { aligned, retention, mobility, retention_inexact, mobility_inexact }
+}
+
+/// The rows whose prediction by the model, if there is one, is not exact.
+fn inexact<M>(
+    model: Option<M>,
+    features: &[Feature],
+    exact: impl Fn(&M, &Feature) -> bool,
+) -> usize {
+    model.map_or(0, |model| features.iter().filter(|f| !exact(&model, f)).count())
 }
 
 /// The rows that train, by the models' own test.
@@ -66,16 +89,18 @@ fn training_rows(features: &[Feature]) -> usize {
     features.iter().filter(|f| f.label == 1 && f.spectrum_q <= 0.01).count()
 }
 
-fn fit_retention(db: &IndexedDatabase, features: &[Feature]) -> Fit {
+fn fit_retention(db: &IndexedDatabase, features: &[Feature]) -> (Fit, Option<RetentionModel>) {
     sage::take_failed_ridges();
-    let model = retention_model::RetentionModel::fit(db, features);
-    Fit::of(model.map(|m| (m.r2, m.probe_beta().to_vec())), training_rows(features))
+    let model = RetentionModel::fit(db, features);
+    let told = model.as_ref().map(|m| (m.r2, m.probe_beta().to_vec()));
+    (Fit::of(told, training_rows(features)), model)
 }
 
-fn fit_mobility(db: &IndexedDatabase, features: &[Feature]) -> Fit {
+fn fit_mobility(db: &IndexedDatabase, features: &[Feature]) -> (Fit, Option<MobilityModel>) {
     sage::take_failed_ridges();
-    let model = mobility_model::MobilityModel::fit(db, features);
-    Fit::of(model.map(|m| (m.r2, m.probe_beta().to_vec())), training_rows(features))
+    let model = MobilityModel::fit(db, features);
+    let told = model.as_ref().map(|m| (m.r2, m.probe_beta().to_vec()));
+    (Fit::of(told, training_rows(features)), model)
 }
 
 impl Batch {
@@ -131,18 +156,19 @@ fn read_peptides(input: &mut Tokens, n: usize, letters: usize) -> Result<Vec<Pep
     (0..n).map(peptide).collect()
 }
 
-/// Writes 8, 9, or 0 with the ridge, r2, n and the coefficients.
-fn write_fit(out: &mut Output, fit: &Fit) {
-    match fit {
-        Fit::NoTrainingRows => out.number(8),
-        Fit::NotSolved => out.number(9),
-        Fit::Solved { ridge, r2, n, beta } => {
-            out.number(0);
-            out.f64(*ridge);
-            out.f64(*r2);
-            out.number(*n);
-            beta.iter().for_each(|&x| out.f64(x));
-        }
+/// Writes 8, 9 or 0 and the number of predictions that are not exact; with 0 the ridge, r2, n and the coefficients.
+fn write_fit(out: &mut Output, fit: &Fit, inexact: usize) {
+    out.number(match fit {
+        Fit::Solved { .. } => 0,
+        Fit::NoTrainingRows => 8,
+        Fit::NotSolved => 9,
+    });
+    out.number(inexact);
+    if let Fit::Solved { ridge, r2, n, beta } = fit {
+        out.f64(*ridge);
+        out.f64(*r2);
+        out.number(*n);
+        beta.iter().for_each(|&x| out.f64(x));
     }
 }
 
@@ -152,8 +178,8 @@ pub fn answer(input: &mut Tokens, out: &mut Output) -> Result<(), String> {
     let features = &run.aligned.features;
     out.number(0);
     write_aligned(out, &run.aligned);
-    write_fit(out, &run.retention);
-    write_fit(out, &run.mobility);
+    write_fit(out, &run.retention, run.retention_inexact);
+    write_fit(out, &run.mobility, run.mobility_inexact);
     if let Fit::Solved { .. } = run.retention {
         features.iter().for_each(|f| out.f32(f.predicted_rt));
         features.iter().for_each(|f| out.f32(f.delta_rt_model));

@@ -14,8 +14,8 @@ fn row(file: usize, peptide: u32, rt: f32) -> Row {
     Row { label: 1, rt, charge: 2, ims: 1.0, ..Row::new(file, PeptideIx(peptide)) }
 }
 
-/// The one file's longest time, slope, intercept and number of kept peptides, as patterns.
-fn record(rows: &[Row]) -> [u64; 4] {
+/// The one file's longest time, slope, intercept and number of kept peptides, as patterns, and its flags.
+fn record(rows: &[Row]) -> [u64; 7] {
     align(1, rows).patterns()[0]
 }
 
@@ -61,13 +61,13 @@ fn longest_times() {
 
 #[test]
 fn no_rows() {
-    assert_eq!(record(&[]), [0, 0x3F80_0000, 0, 0]);
+    assert_eq!(record(&[]), [0, 0x3F80_0000, 0, 0, 1, 1, 1]);
 }
 
 /// The time's share of a longest time of 0 is infinite, so the peptide is dropped.
 #[test]
 fn a_dropped_peptide() {
-    assert_eq!(record(&[row(0, 0, -3.0)]), [0, 0x3F80_0000, 0, 0]);
+    assert_eq!(record(&[row(0, 0, -3.0)]), [0, 0x3F80_0000, 0, 0, 1, 1, 1]);
 }
 
 #[test]
@@ -80,7 +80,7 @@ fn peptides_are_counted_and_not_rows() {
 #[test]
 fn the_programs_row() {
     let rows = [row(0, 0, 10.0)];
-    assert_eq!(record(&rows), [0x4120_0000, 0, 0x3F80_0000, 1]);
+    assert_eq!(record(&rows), [0x4120_0000, 0, 0x3F80_0000, 1, 1, 1, 1]);
     assert_eq!(align(1, &rows).features[0].aligned_rt.to_bits(), 0x3F80_0000);
 }
 

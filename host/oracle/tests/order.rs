@@ -1,5 +1,5 @@
 //! The alignment's sums go by rising peptide and rising file: a plain rendering of document 01 agrees, on the
-//! records and on the numbers of kept peptides.
+//! records, on the numbers of kept peptides and on the flags.
 
 use oracle::alignment::{align, Row};
 use oracle::rng::Rng;
@@ -50,21 +50,22 @@ fn line(file: usize, kept: &[(Shares, f64)]) -> (f64, f64, usize) {
     (or(slope, 1.0), or(intercept, 0.0), points.len())
 }
 
-/// The records' patterns by the rendering above.
-fn rendered(rows: &[Row]) -> Vec<[u64; 4]> {
+/// The records' patterns by the rendering above, and for each float whether it equals its f64.
+fn rendered(rows: &[Row]) -> Vec<[u64; 7]> {
     let longest = longest(rows);
     let kept = kept(rows, &longest);
     let record = |file: usize| {
         let (slope, intercept, points) = line(file, &kept);
-        let [longest, slope, intercept] =
-            [longest[file] as f32, slope as f32, intercept as f32].map(bits32);
-        [longest, slope, intercept, points as u64]
+        let floats = [longest[file], slope, intercept];
+        let [longest, slope, intercept] = floats.map(|x| bits32(x as f32));
+        let [a, b, c] = floats.map(|x| u64::from(f64::from(x as f32) == x));
+        [longest, slope, intercept, points as u64, a, b, c]
     };
     (0..FILES).map(record).collect()
 }
 
-/// The records' patterns by the Rust.
-fn records(rows: &[Row]) -> Vec<[u64; 4]> {
+/// The records' patterns and flags by the Rust.
+fn records(rows: &[Row]) -> Vec<[u64; 7]> {
     align(FILES, rows).patterns()
 }
 
@@ -75,6 +76,7 @@ fn row(file: usize, peptide: usize, rt: f32) -> Row {
 #[test]
 fn random_batches() {
     let mut r = Rng::new(2);
+    let mut exact = [[0; 2]; 3];
     for _ in 0..300 {
         let rows = (0..r.range(0, 120)).map(|_| {
             let rt = if r.one_in(9) {
@@ -85,8 +87,14 @@ fn random_batches() {
             row(r.below(FILES), r.below(PEPTIDES), rt)
         });
         let rows: Vec<Row> = rows.collect();
-        assert_eq!(records(&rows), rendered(&rows));
+        let all = records(&rows);
+        assert_eq!(all, rendered(&rows));
+        for record in all {
+            (0..3).for_each(|i| exact[i][record[4 + i] as usize] += 1);
+        }
     }
+    println!("not exact and exact longest times, slopes and intercepts: {exact:?}");
+    assert!(exact.iter().flatten().all(|n| 20 <= *n));
 }
 
 /// Two rows of a peptide count once. Peptide 1 is dropped for its time in file 1 and peptide 27 for its mean 0:

@@ -13,6 +13,12 @@ mod unchanged {
 }
 pub use unchanged::{mass, ml, COMPILED, SOURCE};
 
+/// The slope and the intercept of each file, in f64 as they are before the narrowing, that alignments on this thread
+/// gave since the last call.
+pub fn take_lines() -> Vec<[f64; 2]> {
+    log::take_lines()
+}
+
 /// The ridges tried without success on this thread since the last call.
 pub fn take_failed_ridges() -> usize {
     log::take_debugs()

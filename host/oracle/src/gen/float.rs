@@ -27,6 +27,7 @@ pub fn cases() -> String {
     unary(&mut out, 0x0B, random64(&mut rng, LEAST));
     unary(&mut out, 0x0C, widened(&mut rng));
     unary(&mut out, 0x0D, widened(&mut rng));
+    unary(&mut out, 0x0E, held_or_not(&mut rng));
     out.text
 }
 
@@ -83,6 +84,24 @@ fn around_ties(rng: &mut Rng) -> Vec<u64> {
     };
     let near = |m: u64| [m - 1, m, m + 1, m | 1 << 63, (m | 1 << 63) + 1];
     ties.into_iter().map(middle).flat_map(near).collect()
+}
+
+/// f64 patterns of `narrowing`, which an f32 seldom holds; numbers that an f32 holds, many of them subnormal, and the
+/// f64 beside some of them; and NaNs.
+fn held_or_not(rng: &mut Rng) -> Vec<u64> {
+    let mut args = narrowing(rng);
+    let mut held: Vec<u32> = exponents32().collect();
+    held.extend((0..200).map(|i| (rng.bits() as u32) << 31 | rng.bits() as u32 >> (9 + i % 23)));
+    held.extend((0..300).map(|_| any32(rng)));
+    for x in held.into_iter().map(f32::from_bits).filter(|x| !x.is_nan()) {
+        let bits = (x as f64).to_bits();
+        args.push(bits);
+        if rng.one_in(4) {
+            args.push(bits ^ 1);
+        }
+    }
+    args.extend((0..200).map(|_| nan64(rng) | rng.bits() << 63));
+    args
 }
 
 /// f32 patterns to round up: every exponent, whole numbers and their neighbours, and 2^32.
