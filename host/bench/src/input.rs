@@ -1,6 +1,6 @@
 //! The inputs, in the form that each side takes, and a call of each side for each phase.
 
-use crate::calls::{align, Input, Model};
+use crate::calls::{align, Input, Model, Records};
 use oracle::gen::run::batch;
 use oracle::rng::Rng;
 use sage::database::IndexedDatabase;
@@ -56,6 +56,7 @@ pub struct Work {
     workspace: Vec<f64>,
     lines: [Vec<f32>; 3],
     used: Vec<u32>,
+    exact: [Vec<bool>; 3],
     beta: Vec<f64>,
     predicted: Vec<f32>,
     error: Vec<f32>,
@@ -73,6 +74,7 @@ impl Work {
             workspace: vec![0.0; (FILES * peptides).max(mobility::WORKSPACE)],
             lines: [vec![0.0; FILES], vec![0.0; FILES], vec![0.0; FILES]],
             used: vec![0; FILES],
+            exact: [vec![false; FILES], vec![false; FILES], vec![false; FILES]],
             beta: vec![0.0; mobility::COLUMNS],
             predicted: vec![0.0; n],
             error: vec![0.0; n],
@@ -88,9 +90,12 @@ impl Work {
 
     pub fn align(&mut self) {
         let Input { rows, aligned, table } = &mut self.input;
-        let lines = self.lines.each_mut().map(Vec::as_mut_slice);
-        let (work, used) = (&mut self.workspace, &mut self.used);
-        let status = align(rows, FILES, table.len(), work, lines, used, aligned);
+        let records = Records {
+            lines: self.lines.each_mut().map(Vec::as_mut_slice),
+            used: &mut self.used,
+            exact: self.exact.each_mut().map(Vec::as_mut_slice),
+        };
+        let status = align(rows, FILES, table.len(), &mut self.workspace, records, aligned);
         assert_eq!(status, 0);
     }
 

@@ -2,38 +2,36 @@
 
 use crate::cells::{same, Cell};
 use crate::psm::{Peptides, Psm};
-use oracle::alignment::{align, Row};
+use oracle::alignment::Row;
 use oracle::rng::Rng;
-use oracle::run::Batch;
-use sage::database::{IndexedDatabase, PeptideIx};
-use sage::ml::{mobility_model, retention_model};
+use oracle::run::{run, Fit};
+use sage::database::PeptideIx;
 use sage::peptide::Peptide;
 use sage::scoring::Feature;
-use zorkamai::{adapters, Alignment};
+use zorkamai::{adapters, Alignment, Error, Predicted};
 
 /// A batch of any family through sage's three calls and, the peptides' numbers moved apart, through the
 /// adapters.
 pub fn case(r: &mut Rng) -> Result<usize, String> {
-    let Batch { files, peptides, rows } = oracle::gen::run::any(r);
+    let batch = oracle::gen::run::any(r);
     let apart = r.pick(&[1, 7, 1_000, 1 << 20]);
-    let table: Vec<(u32, Peptide)> = (0..).step_by(apart).zip(peptides.iter().cloned()).collect();
-    let db = IndexedDatabase { peptides };
+    let table: Vec<(u32, Peptide)> =
+        (0..).step_by(apart).zip(batch.peptides.iter().cloned()).collect();
     let psm = |row: &Row| {
         let peptide_idx = PeptideIx(row.peptide.0 * apart as u32);
         Psm(Feature { peptide_idx, ..row.feature() })
     };
-    let mut ours: Vec<Psm> = rows.iter().map(psm).collect();
+    let mut ours: Vec<Psm> = batch.rows.iter().map(psm).collect();
     let peptides = Peptides(&table);
 
-    let want = align(files, &rows);
-    let records = adapters::global_alignment(&mut ours, files).map_err(|e| e.to_string())?;
-    same("records", records.iter().map(patterns).collect(), want.patterns())?;
-    let mut sage = want.features;
-    let fits = retention_model::predict(&db, &mut sage).is_some();
-    same("retention fits", adapters::predict_retention(&peptides, &mut ours).is_ok(), fits)?;
-    let fits = mobility_model::predict(&db, &mut sage).is_some();
-    same("mobility fits", adapters::predict_mobility(&peptides, &mut ours).is_ok(), fits)?;
-    for (f, Psm(g)) in sage.iter().zip(&ours) {
+    let want = run(&batch);
+    let records = adapters::global_alignment(&mut ours, batch.files).map_err(|e| e.to_string())?;
+    same("records", records.iter().map(patterns).collect(), want.aligned.patterns())?;
+    let times = adapters::predict_retention(&peptides, &mut ours);
+    is_model("retention", times, &want.retention, want.retention_inexact)?;
+    let mobilities = adapters::predict_mobility(&peptides, &mut ours);
+    is_model("mobility", mobilities, &want.mobility, want.mobility_inexact)?;
+    for (f, Psm(g)) in want.aligned.features.iter().zip(&ours) {
         same("aligned_rt", g.aligned_rt.pattern(), f.aligned_rt.written())?;
         same("predicted_rt", g.predicted_rt.pattern(), f.predicted_rt.written())?;
         same("delta_rt_model", g.delta_rt_model.pattern(), f.delta_rt_model.written())?;
@@ -44,6 +42,25 @@ pub fn case(r: &mut Rng) -> Result<usize, String> {
 }
 
 /// A record's fields.
-fn patterns(a: &Alignment) -> [u64; 4] {
-    [a.max_rt.pattern(), a.slope.pattern(), a.intercept.pattern(), a.used.pattern()]
+fn patterns(a: &Alignment) -> [u64; 7] {
+    let [max_rt, slope, intercept] = [a.max_rt, a.slope, a.intercept].map(Cell::pattern);
+    let exact = [a.max_rt_exact, a.slope_exact, a.intercept_exact];
+    let [max_rt_exact, slope_exact, intercept_exact] = exact.map(Cell::pattern);
+    [max_rt, slope, intercept, a.used.pattern(), max_rt_exact, slope_exact, intercept_exact]
+}
+
+/// The model fits or fails as the Rust's does, and has so many predictions that are not exact.
+fn is_model(
+    what: &str,
+    got: Result<Predicted, Error>,
+    want: &Fit,
+    inexact: usize,
+) -> Result<(), String> {
+    let number = match want {
+        Fit::Solved { .. } => 0,
+        Fit::NoTrainingRows => 8,
+        Fit::NotSolved => 9,
+    };
+    let got = got.map_or_else(|e| (e.number(), 0), |model| (0, model.inexact as usize));
+    same(&format!("{what}'s number and inexact"), got, (number, inexact))
 }

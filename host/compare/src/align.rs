@@ -1,6 +1,6 @@
 //! Batches through the alignment, and damaged calls of it.
 
-use crate::calls::{self, columns};
+use crate::calls::{self, columns, Records};
 use crate::cells::{same, Output};
 use oracle::alignment::{align, Aligned};
 use oracle::gen::alignment::Rows;
@@ -23,6 +23,13 @@ pub struct Outputs {
     pub floats: [Output<f32>; 4],
     /// The numbers of kept peptides.
     pub used: Output<u32>,
+    /// The flags.
+    pub exact: [Output<bool>; 3],
+}
+
+/// The columns of the flags.
+pub fn flags(r: &mut Rng, files: usize) -> [Output<bool>; 3] {
+    ["max_rt_exact", "slope_exact", "intercept_exact"].map(|name| Output::new(r, name, files))
 }
 
 impl Outputs {
@@ -36,40 +43,49 @@ impl Outputs {
                 Output::new(r, "aligned", batch.rows.len()),
             ],
             used: Output::new(r, "used", batch.files),
+            exact: flags(r, batch.files),
         }
     }
 
     pub fn call(&mut self, rows: &zorkamai::Rows, files: usize, peptides: usize) -> u8 {
         let [max_rt, slope, intercept, aligned] = &mut self.floats;
-        let lines = [&mut max_rt.now[..], &mut slope.now, &mut intercept.now];
-        let (work, used) = (&mut self.workspace.now, &mut self.used.now);
-        calls::align(rows, files, peptides, work, lines, used, &mut aligned.now)
+        let records = Records {
+            lines: [&mut max_rt.now, &mut slope.now, &mut intercept.now],
+            used: &mut self.used.now,
+            exact: self.exact.each_mut().map(|column| &mut column.now[..]),
+        };
+        let work = &mut self.workspace.now;
+        calls::align(rows, files, peptides, work, records, &mut aligned.now)
     }
 
     fn reset(&mut self) {
         self.workspace.reset();
         self.floats.iter_mut().for_each(Output::reset);
         self.used.reset();
+        self.exact.iter_mut().for_each(Output::reset);
     }
 
     fn unchanged(&self) -> Result<(), String> {
         self.workspace.unchanged()?;
         self.floats.iter().try_for_each(Output::unchanged)?;
-        self.used.unchanged()
+        self.used.unchanged()?;
+        self.exact.iter().try_for_each(Output::unchanged)
     }
 }
 
 /// The call is accepted and gives what the Rust gives.
 pub fn accepted(batch: &Rows, rows: &zorkamai::Rows, out: &mut Outputs) -> Result<(), String> {
     same("status", out.call(rows, batch.files, batch.peptides), 0)?;
-    holds_aligned(&out.floats, &out.used, &align(batch.files, &batch.rows))?;
+    holds_aligned(&out.floats, &out.used, &out.exact, &align(batch.files, &batch.rows))?;
     out.workspace.zeroed()
 }
 
-/// The longest times, slopes, intercepts and aligned times are the Rust's, and so are the numbers of kept peptides.
+/// The longest times, slopes, intercepts and aligned times are the Rust's, and so are the numbers of kept peptides and
+/// the flags.
 pub fn holds_aligned(
     floats: &[Output<f32>],
     used: &Output<u32>,
+    exact: &[Output<bool>; 3],
     want: &Aligned,
 ) -> Result<(), String> {
     let of = |cell: fn(&Alignment) -> f32| want.records.iter().map(cell).collect::<Vec<f32>>();
@@ -77,6 +93,9 @@ pub fn holds_aligned(
     floats[1].holds(&of(|a| a.slope))?;
     floats[2].holds(&of(|a| a.intercept))?;
     floats[3].holds(&want.times())?;
+    for (i, column) in exact.iter().enumerate() {
+        column.holds(&want.exact.iter().map(|flags| flags[i]).collect::<Vec<bool>>())?;
+    }
     used.holds(&want.used)
 }
 
@@ -161,5 +180,10 @@ fn too_short(batch: &Rows, rows: &zorkamai::Rows, out: &mut Outputs) -> Result<u
     let whole = out.used.cut();
     refuse(out)?;
     out.used = whole;
+    for i in 0..3 {
+        let whole = out.exact[i].cut();
+        refuse(out)?;
+        out.exact[i] = whole;
+    }
     Ok(calls)
 }

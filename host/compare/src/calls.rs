@@ -26,21 +26,48 @@ pub fn columns(rows: &[Row]) -> Rows {
     rows.iter().map(row).collect()
 }
 
-/// Calls the alignment, which writes longest times, slopes and intercepts to `lines`, and the numbers of kept
-/// peptides to `used`.
+/// The columns that an alignment writes the files' records to.
+pub struct Records<'a> {
+    /// The longest times, slopes and intercepts.
+    pub lines: [&'a mut [f32]; 3],
+    /// The numbers of kept peptides.
+    pub used: &'a mut [u32],
+    /// Whether each longest time, slope and intercept is exact.
+    pub exact: [&'a mut [bool]; 3],
+}
+
+/// Calls the alignment.
 pub fn align(
     rows: &Rows,
     files: usize,
     peptides: usize,
     work: &mut [f64],
-    lines: [&mut [f32]; 3],
-    used: &mut [u32],
+    records: Records,
     aligned: &mut [f32],
 ) -> u8 {
     let Rows { file, peptide, label, q, rt, .. } = rows;
-    let [max_rt, slope, intercept] = lines;
+    let Records {
+        lines: [max_rt, slope, intercept],
+        used,
+        exact: [of_max_rt, of_slope, of_intercept],
+    } = records;
     raw::align(
-        file, peptide, label, q, rt, files, peptides, work, max_rt, slope, intercept, used, aligned,
+        file,
+        peptide,
+        label,
+        q,
+        rt,
+        files,
+        peptides,
+        work,
+        max_rt,
+        slope,
+        intercept,
+        used,
+        of_max_rt,
+        of_slope,
+        of_intercept,
+        aligned,
     )
 }
 

@@ -3,13 +3,13 @@
 use oracle::rng::Rng;
 use oracle::text::{bits32, bits64};
 
-/// A float or a count by its pattern.
+/// A float, a count or a flag by its pattern.
 pub trait Cell: Copy {
     /// The pattern as it is.
     fn pattern(self) -> u64;
     /// The pattern that must be written for it: the one NaN for any NaN.
     fn written(self) -> u64;
-    /// Any float or count.
+    /// Any float, count or flag.
     fn from_bits(bits: u64) -> Self;
 }
 
@@ -46,6 +46,18 @@ impl Cell for u32 {
     }
     fn from_bits(bits: u64) -> u32 {
         bits as u32
+    }
+}
+
+impl Cell for bool {
+    fn pattern(self) -> u64 {
+        self as u64
+    }
+    fn written(self) -> u64 {
+        self as u64
+    }
+    fn from_bits(bits: u64) -> bool {
+        bits % 2 == 1
     }
 }
 

@@ -15,6 +15,9 @@ pub fn records(r: &mut Rng) -> Result<usize, String> {
         slope: float(r),
         intercept: float(r),
         used: any32(r),
+        max_rt_exact: r.one_in(2),
+        slope_exact: r.one_in(2),
+        intercept_exact: r.one_in(2),
     };
     let records: Vec<Alignment> = (0..n).map(|_| record(r)).collect();
     let files = [0, 1, n as u32, n as u32 + 1, r.below(n + 1) as u32, u32::MAX, 1 << 31];
@@ -32,6 +35,9 @@ pub fn records(r: &mut Rng) -> Result<usize, String> {
         same("slope", found.slope.pattern(), record.slope.written())?;
         same("intercept", found.intercept.pattern(), record.intercept.written())?;
         same("used", found.used, record.used)?;
+        same("max_rt_exact", found.max_rt_exact, record.max_rt_exact)?;
+        same("slope_exact", found.slope_exact, record.slope_exact)?;
+        same("intercept_exact", found.intercept_exact, record.intercept_exact)?;
         same("status", time.status, status)?;
         same("aligned", time.aligned.pattern(), aligned.written())?;
     }

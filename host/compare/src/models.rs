@@ -2,6 +2,7 @@
 
 use crate::calls::{Input, Model};
 use crate::cells::{same, Cell, Output};
+use crate::solve::only;
 use oracle::rng::Rng;
 use oracle::run::{run, Fit, Run};
 use sage::scoring::Feature;
@@ -30,11 +31,11 @@ impl Model {
         }
     }
 
-    /// The Rust's fit.
-    fn want(self, run: &Run) -> &Fit {
+    /// The Rust's fit, and how many of its predictions are not exact.
+    fn want(self, run: &Run) -> (&Fit, usize) {
         match self {
-            Model::Retention => &run.retention,
-            Model::Mobility => &run.mobility,
+            Model::Retention => (&run.retention, run.retention_inexact),
+            Model::Mobility => (&run.mobility, run.mobility_inexact),
         }
     }
 
@@ -90,8 +91,8 @@ impl Outputs {
     }
 
     /// The answer, the work room and the coefficients are those of the Rust's fit.
-    fn holds_fit(&self, answer: raw::Answer, want: &Fit) -> Result<(), String> {
-        is_fit("fit", answer, want)?;
+    fn holds_fit(&self, answer: raw::Answer, want: &Fit, inexact: usize) -> Result<(), String> {
+        is_fit("fit", answer, want, inexact)?;
         self.doubles[0].zeroed()?;
         holds_beta(&self.doubles[1], want)
     }
@@ -114,27 +115,28 @@ pub fn accepted(
     want: &Run,
     out: &mut Outputs,
 ) -> Result<usize, String> {
-    let (fit, features) = (model.want(want), &want.aligned.features);
+    let ((fit, inexact), features) = (model.want(want), &want.aligned.features);
     let answer = out.fit(model, input);
-    out.holds_fit(answer, fit)?;
+    out.holds_fit(answer, fit, 0)?;
     out.floats.iter().try_for_each(Output::unchanged)?;
     out.reset();
     let answer = out.predict(model, input);
-    out.holds_fit(answer, fit)?;
+    out.holds_fit(answer, fit, inexact)?;
     holds_column(&out.floats[0], fit, features, |f| model.written(f).0)?;
     holds_column(&out.floats[1], fit, features, |f| model.written(f).1)?;
     Ok(2)
 }
 
-/// The answer is that of the Rust's fit.
-pub fn is_fit(what: &str, answer: raw::Answer, want: &Fit) -> Result<(), String> {
+/// The answer is that of the Rust's fit, with so many predictions that are not exact.
+pub fn is_fit(what: &str, answer: raw::Answer, want: &Fit, inexact: usize) -> Result<(), String> {
     let got = (answer.status, answer.ridge.pattern(), answer.r2.pattern(), answer.n);
     let wanted = match want {
         Fit::Solved { ridge, r2, n, .. } => (0, ridge.pattern(), r2.written(), *n as u32),
         Fit::NoTrainingRows => (8, 0, 0, 0),
         Fit::NotSolved => (9, 0, 0, 0),
     };
-    same(what, got, wanted)
+    same(what, got, wanted)?;
+    same(&format!("{what}'s inexact"), answer.inexact as usize, inexact)
 }
 
 /// The coefficients are those of the Rust's fit, or what they were.
@@ -166,8 +168,7 @@ fn damaged(r: &mut Rng, model: Model, input: &Input, out: &mut Outputs) -> Resul
     let mut refuse = |out: &mut Outputs, input: &Input, status: u8| {
         calls += 2;
         for answer in [out.fit(model, input), out.predict(model, input)] {
-            let got = (answer.status, answer.ridge, answer.r2, answer.n);
-            same(&format!("{model:?}'s refusal"), got, (status, 0.0, 0.0, 0))?;
+            same(&format!("{model:?}'s refusal"), answer, only(status))?;
         }
         out.unchanged()
     };
@@ -186,7 +187,7 @@ fn damaged(r: &mut Rng, model: Model, input: &Input, out: &mut Outputs) -> Resul
         if out.floats[i].needed() > 0 {
             let whole = out.floats[i].cut();
             calls += 1;
-            same("status", out.predict(model, input).status, 3)?;
+            same("refusal", out.predict(model, input), only(3))?;
             out.unchanged()?;
             out.floats[i] = whole;
         }

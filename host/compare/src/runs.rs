@@ -1,9 +1,10 @@
 //! Whole runs, and damaged calls of them.
 
-use crate::align::holds_aligned;
+use crate::align::{flags, holds_aligned};
 use crate::calls::Input;
 use crate::cells::{same, Output};
 use crate::models::{broken, holds_beta, holds_column, is_fit, shorter, Cut};
+use crate::solve::only;
 use oracle::rng::Rng;
 use oracle::run::{run, Batch, Run};
 use zorkamai::{mobility, raw, retention};
@@ -19,11 +20,12 @@ pub fn case(r: &mut Rng) -> Result<usize, String> {
 }
 
 /// The slices that a run writes: the work room and both models' coefficients; the lines, the aligned times and
-/// both models' predictions and errors; the numbers of kept peptides.
+/// both models' predictions and errors; the numbers of kept peptides; the flags.
 pub struct Outputs {
     doubles: [Output<f64>; 3],
     floats: [Output<f32>; 8],
     used: Output<u32>,
+    exact: [Output<bool>; 3],
 }
 
 impl Outputs {
@@ -46,12 +48,13 @@ impl Outputs {
             Output::new(r, "retention_beta", retention::COLUMNS),
             Output::new(r, "mobility_beta", mobility::COLUMNS),
         ];
-        Outputs { doubles, floats, used: Output::new(r, "used", files) }
+        Outputs { doubles, floats, used: Output::new(r, "used", files), exact: flags(r, files) }
     }
 
     fn call(&mut self, i: &Input, files: usize) -> raw::RunReport {
         let [work, beta, beta2] = &mut self.doubles;
         let [max_rt, slope, intercept, aligned, x, e, x2, e2] = &mut self.floats;
+        let [max_rt_exact, slope_exact, intercept_exact] = &mut self.exact;
         raw::run(
             &i.rows.file,
             &i.rows.peptide,
@@ -70,6 +73,9 @@ impl Outputs {
             &mut slope.now,
             &mut intercept.now,
             &mut self.used.now,
+            &mut max_rt_exact.now,
+            &mut slope_exact.now,
+            &mut intercept_exact.now,
             &mut aligned.now,
             &mut beta.now,
             &mut x.now,
@@ -84,12 +90,14 @@ impl Outputs {
         self.doubles.iter_mut().for_each(Output::reset);
         self.floats.iter_mut().for_each(Output::reset);
         self.used.reset();
+        self.exact.iter_mut().for_each(Output::reset);
     }
 
     fn unchanged(&self) -> Result<(), String> {
         self.doubles.iter().try_for_each(Output::unchanged)?;
         self.floats.iter().try_for_each(Output::unchanged)?;
-        self.used.unchanged()
+        self.used.unchanged()?;
+        self.exact.iter().try_for_each(Output::unchanged)
     }
 }
 
@@ -97,11 +105,11 @@ impl Outputs {
 pub fn accepted(batch: &Batch, input: &Input, want: &Run, out: &mut Outputs) -> Result<(), String> {
     let report = out.call(input, batch.files);
     same("status", report.status, 0)?;
-    is_fit("retention", report.retention, &want.retention)?;
-    is_fit("mobility", report.mobility, &want.mobility)?;
+    is_fit("retention", report.retention, &want.retention, want.retention_inexact)?;
+    is_fit("mobility", report.mobility, &want.mobility, want.mobility_inexact)?;
     out.doubles[0].zeroed()?;
     let features = &want.aligned.features;
-    holds_aligned(&out.floats[..4], &out.used, &want.aligned)?;
+    holds_aligned(&out.floats[..4], &out.used, &out.exact, &want.aligned)?;
     holds_column(&out.floats[4], &want.retention, features, |f| f.predicted_rt)?;
     holds_column(&out.floats[5], &want.retention, features, |f| f.delta_rt_model)?;
     holds_column(&out.floats[6], &want.mobility, features, |f| f.predicted_ims)?;
@@ -122,6 +130,14 @@ const CUTS: [Cut; 8] = [
     |i| i.table.logs.pop().is_some(),
 ];
 
+/// The call is refused with this number, and changes nothing.
+fn refused(out: &mut Outputs, input: &Input, files: usize, status: u8) -> Result<(), String> {
+    let (retention, mobility) = (only(status), only(status));
+    let want = raw::RunReport { status, retention, mobility };
+    same("refusal", out.call(input, files), want)?;
+    out.unchanged()
+}
+
 /// Each column one short, each slice one short, limits passed, broken tables and numbers out of range: refused, and
 /// nothing changed.
 fn damaged(r: &mut Rng, batch: &Batch, input: &Input, out: &mut Outputs) -> Result<usize, String> {
@@ -129,10 +145,7 @@ fn damaged(r: &mut Rng, batch: &Batch, input: &Input, out: &mut Outputs) -> Resu
     let mut calls = 0;
     let mut refuse = |out: &mut Outputs, input: &Input, files: usize, status: u8| {
         calls += 1;
-        let report = out.call(input, files);
-        let got = [report.status, report.retention.status, report.mobility.status];
-        same("refusal", got, [status; 3])?;
-        out.unchanged()
+        refused(out, input, files, status)
     };
     let files = batch.files;
     for damaged in shorter(input, &CUTS) {
@@ -141,21 +154,6 @@ fn damaged(r: &mut Rng, batch: &Batch, input: &Input, out: &mut Outputs) -> Resu
     for many in [0, 1_025, usize::MAX] {
         refuse(out, input, many, 2)?;
     }
-    for i in 0..out.doubles.len() {
-        let whole = out.doubles[i].cut();
-        refuse(out, input, files, 3)?;
-        out.doubles[i] = whole;
-    }
-    for i in 0..out.floats.len() {
-        if out.floats[i].needed() > 0 {
-            let whole = out.floats[i].cut();
-            refuse(out, input, files, 3)?;
-            out.floats[i] = whole;
-        }
-    }
-    let whole = out.used.cut();
-    refuse(out, input, files, 3)?;
-    out.used = whole;
     for (damaged, status) in broken(r, input) {
         refuse(out, &damaged, files, status)?;
     }
@@ -163,6 +161,36 @@ fn damaged(r: &mut Rng, batch: &Batch, input: &Input, out: &mut Outputs) -> Resu
         let mut damaged = input.clone();
         damaged.rows.file[r.below(input.rows.len())] = files as u32 + r.below(3) as u32;
         refuse(out, &damaged, files, 4)?;
+    }
+    Ok(calls + too_short(input, files, out)?)
+}
+
+/// Each slice one short.
+fn too_short(input: &Input, files: usize, out: &mut Outputs) -> Result<usize, String> {
+    let mut calls = 0;
+    let mut refuse = |out: &mut Outputs| {
+        calls += 1;
+        refused(out, input, files, 3)
+    };
+    for i in 0..out.doubles.len() {
+        let whole = out.doubles[i].cut();
+        refuse(out)?;
+        out.doubles[i] = whole;
+    }
+    for i in 0..out.floats.len() {
+        if out.floats[i].needed() > 0 {
+            let whole = out.floats[i].cut();
+            refuse(out)?;
+            out.floats[i] = whole;
+        }
+    }
+    let whole = out.used.cut();
+    refuse(out)?;
+    out.used = whole;
+    for i in 0..out.exact.len() {
+        let whole = out.exact[i].cut();
+        refuse(out)?;
+        out.exact[i] = whole;
     }
     Ok(calls)
 }

@@ -11,6 +11,8 @@ pub struct Answer {
     pub rows: Vec<Vec<u64>>,
     /// The number of each fit: 0, 8 or 9.
     pub fits: [u64; 2],
+    /// How many predictions of each model are not exact. All rows count, so the ends of a pair may differ in it.
+    pub inexact: [u64; 2],
 }
 
 impl Answer {
@@ -18,13 +20,14 @@ impl Answer {
     pub fn read(input: &mut Tokens, batch: &Batch) -> Result<Answer, String> {
         assert_eq!(input.bits()?, 0, "a run is accepted");
         let n = batch.rows.len();
-        let mut fitted = input.column(4 * batch.files, Tokens::bits)?;
+        let mut fitted = input.column(7 * batch.files, Tokens::bits)?;
         let mut columns = vec![input.column(n, Tokens::bits)?];
-        let mut fits = [0; 2];
-        for (fit, order) in fits.iter_mut().zip([69, 100]) {
-            *fit = input.bits()?;
-            fitted.push(*fit);
-            if *fit == 0 {
+        let (mut fits, mut inexact) = ([0; 2], [0; 2]);
+        for (model, order) in [69, 100].into_iter().enumerate() {
+            fits[model] = input.bits()?;
+            inexact[model] = input.bits()?;
+            fitted.push(fits[model]);
+            if fits[model] == 0 {
                 fitted.extend(input.column(3 + order, Tokens::bits)?);
             }
         }
@@ -32,22 +35,25 @@ impl Answer {
             columns.push(input.column(n, Tokens::bits)?);
             columns.push(input.column(n, Tokens::bits)?);
         }
-        Ok(Answer { fitted, rows: rows(n, &columns), fits })
+        Ok(Answer { fitted, rows: rows(n, &columns), fits, inexact })
     }
 
     /// What the library gave.
     pub fn of(run: &Run) -> Answer {
-        let cells: [fn(&Alignment) -> u64; 4] = [
+        let cells: [fn(&Alignment) -> u64; 7] = [
             |a| a.max_rt.to_bits() as u64,
             |a| a.slope.to_bits() as u64,
             |a| a.intercept.to_bits() as u64,
             |a| a.used as u64,
+            |a| a.max_rt_exact as u64,
+            |a| a.slope_exact as u64,
+            |a| a.intercept_exact as u64,
         ];
         let column = |cell| run.aligned.records.iter().map(cell);
         let mut fitted: Vec<u64> = cells.into_iter().flat_map(column).collect();
         let mut columns = vec![patterns(&run.aligned.aligned)];
         let fits = [&run.retention, &run.mobility].map(|model| match model {
-            Ok(Predicted { fit, predicted, error }) => {
+            Ok(Predicted { fit, predicted, error, .. }) => {
                 fitted.extend([0, fit.ridge.to_bits(), fit.r2.to_bits(), fit.n as u64]);
                 fitted.extend(fit.beta.iter().map(|x| x.to_bits()));
                 columns.extend([patterns(predicted), patterns(error)]);
@@ -58,7 +64,9 @@ impl Answer {
                 error.number() as u64
             }
         });
-        Answer { fitted, rows: rows(run.aligned.aligned.len(), &columns), fits }
+        let inexact = [&run.retention, &run.mobility]
+            .map(|model| model.as_ref().map_or(0, |model| model.inexact as u64));
+        Answer { fitted, rows: rows(run.aligned.aligned.len(), &columns), fits, inexact }
     }
 }
 

@@ -119,7 +119,8 @@ pub enum Difference {
     Row(Mark),
 }
 
-/// That the answers to two lists of rows agree, and how often a row of one is a row of the other.
+/// That the answers to two lists of rows agree, but for the predictions that are not exact, which the rows outside
+/// have too; and how often a row of one is a row of the other.
 pub fn agree(marks: [&[Mark]; 2], answers: [&Answer; 2]) -> Result<usize, Difference> {
     let [before, after] = answers;
     if before.fitted != after.fitted {
@@ -137,12 +138,13 @@ pub fn agree(marks: [&[Mark]; 2], answers: [&Answer; 2]) -> Result<usize, Differ
     Ok(same)
 }
 
-/// What pairs of one sort come to: how many they are, how often a row is at both ends, and how often each
-/// number answers a fit.
+/// What pairs of one sort come to: how many they are, how often a row is at both ends, in how many pairs the numbers
+/// of predictions that are not exact differ between the ends, and how often each number answers a fit.
 #[derive(Default, Debug)]
 pub struct Count {
     pub pairs: usize,
     pub same: usize,
+    pub other_counts: usize,
     pub retention: BTreeMap<u64, usize>,
     pub mobility: BTreeMap<u64, usize>,
 }
@@ -171,15 +173,17 @@ impl Count {
     pub fn add(&mut self, ends: &Ends, outcome: Result<usize, Difference>) {
         self.same += outcome.unwrap_or_else(|why| panic!("pair {}: {why:?}", self.pairs));
         self.pairs += 1;
+        self.other_counts += (ends.rust[0].inexact != ends.rust[1].inexact) as usize;
         let [retention, mobility] = ends.rust[0].fits;
         *self.retention.entry(retention).or_default() += 1;
         *self.mobility.entry(mobility).or_default() += 1;
     }
 
-    /// Demands so many rows at both ends, and that each number answers a fit of each model.
+    /// Demands so many rows at both ends, pairs whose counts differ, so that a rule about them would be wrong, and that
+    /// each number answers a fit of each model.
     pub fn at_least(&self, same: usize, who: &str) {
         println!("{who}: {self:?}");
-        assert!(same <= self.same);
+        assert!(same <= self.same && 20 <= self.other_counts);
         for fits in [&self.retention, &self.mobility] {
             assert!([0, 8, 9].iter().all(|number| fits.contains_key(number)));
         }

@@ -1,6 +1,7 @@
 //! The comparison sees what the rule forbids, whoever answers.
 
 use crate::answer::{rust, Answer};
+use crate::calls::Input;
 use crate::ends::{all_fields, host_pairs, without_number, Difference, Ends};
 use crate::library::{adapted, one_call, three_calls, with_times};
 use oracle::alignment::{align, Row};
@@ -11,6 +12,7 @@ use oracle::run::Batch;
 use sage::database::PeptideIx;
 use sage::peptide::Peptide;
 use std::collections::BTreeSet;
+use zorkamai::Alignment;
 
 /// By the adapters, for a host that has the peptides' numbers a thousand apart.
 fn by_adapters(batch: &Batch) -> Answer {
@@ -81,8 +83,53 @@ fn a_count_that_moves_alone_is_seen() {
     assert_eq!((moved, before.rows), (vec![3], after.rows));
 }
 
+/// Flags that move alone: of a peptide that has share 1 in file 0, and in file 1 share 0 or 2^-40, half of the sum
+/// narrows to the same f32, which is both files' intercept and every row's aligned time.
+#[test]
+fn flags_that_move_alone_are_seen() {
+    let mut before = run::batch(&mut Rng::new(6), 2, 1, 3);
+    let training = Row { peptide: PeptideIx(0), label: 1, q: 0.0, ..before.rows[0] };
+    before.rows[0] = Row { file: 0, rt: 10.0, ..training };
+    before.rows[1] = Row { file: 1, rt: 0.0, ..training };
+    before.rows[2] = Row { file: 1, rt: 1.0, label: -1, ..training };
+    let mut after = before.clone();
+    after.rows[1].rt = 2f32.powi(-40);
+    is_seen(&before, &after);
+    let [before, after] = [rust(&before), rust(&after)];
+    let moved: Vec<usize> =
+        (0..before.fitted.len()).filter(|&i| before.fitted[i] != after.fitted[i]).collect();
+    assert_eq!((moved, before.rows), (vec![12, 13], after.rows));
+}
+
+/// Each flag of an end, turned round by hand; and a count, which the ends need not have in common, but is the Rust's.
+#[test]
+fn a_flag_or_a_count_that_is_wrong_is_seen() {
+    let batch = &stored()[0].before;
+    let marks = [(); 2].map(|_| all_fields(&batch.rows));
+    let ends = Ends::new([batch.clone(), batch.clone()], marks);
+    let Input { rows, table, .. } = Input::new(batch, vec![]);
+    let own = zorkamai::run(&rows, batch.files, &table).expect("a run is accepted");
+    let turn: [fn(&mut Alignment); 3] = [
+        |a| a.max_rt_exact = !a.max_rt_exact,
+        |a| a.slope_exact = !a.slope_exact,
+        |a| a.intercept_exact = !a.intercept_exact,
+    ];
+    for turn in turn {
+        let mut other = own.clone();
+        turn(&mut other.aligned.records[0]);
+        let answers = [&Answer::of(&own), &Answer::of(&other)];
+        assert_eq!(ends.agree(answers), Err(Difference::Fitted));
+        assert_eq!(ends.hold(answers), Err(Difference::Rust(1)));
+    }
+    let mut other = own.clone();
+    other.mobility.iter_mut().for_each(|model| model.inexact ^= 1);
+    let answers = [&Answer::of(&own), &Answer::of(&other)];
+    assert!(ends.agree(answers).is_ok());
+    assert_eq!(ends.hold(answers), Err(Difference::Rust(1)));
+}
+
 /// The records' patterns.
-fn records(batch: &Batch) -> Vec<[u64; 4]> {
+fn records(batch: &Batch) -> Vec<[u64; 7]> {
     align(batch.files, &batch.rows).patterns()
 }
 

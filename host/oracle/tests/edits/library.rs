@@ -65,23 +65,34 @@ fn floats(r: &mut Rng, n: usize) -> Vec<f32> {
     counts(r, n).into_iter().map(f32::from_bits).collect()
 }
 
+/// The same of flags.
+fn flags(r: &mut Rng, n: usize) -> Vec<bool> {
+    counts(r, n).into_iter().map(|n| n % 2 == 1).collect()
+}
+
 fn align(r: &mut Rng, input: &Input, files: usize, more: usize) -> Aligned {
     let (rows, peptides) = (&input.rows, input.table.len());
     let mut workspace = doubles(r, peptides * files + more);
-    let mut lines = [(); 3].map(|_| floats(r, files));
+    let [mut max_rt, mut slope, mut intercept] = [(); 3].map(|_| floats(r, files));
     let mut used = counts(r, files);
+    let [mut max_rt_exact, mut slope_exact, mut intercept_exact] = [(); 3].map(|_| flags(r, files));
     let mut aligned = floats(r, rows.len());
-    let cells = lines.each_mut().map(Vec::as_mut_slice);
-    let status =
-        calls::align(rows, files, peptides, &mut workspace, cells, &mut used, &mut aligned);
+    let records = calls::Records {
+        lines: [&mut max_rt, &mut slope, &mut intercept],
+        used: &mut used,
+        exact: [&mut max_rt_exact, &mut slope_exact, &mut intercept_exact],
+    };
+    let status = calls::align(rows, files, peptides, &mut workspace, records, &mut aligned);
     assert_eq!(status, 0, "an alignment is accepted");
     aligned.truncate(rows.len());
-    let [max_rt, slope, intercept] = lines;
     let record = |i: usize| Alignment {
         max_rt: max_rt[i],
         slope: slope[i],
         intercept: intercept[i],
         used: used[i],
+        max_rt_exact: max_rt_exact[i],
+        slope_exact: slope_exact[i],
+        intercept_exact: intercept_exact[i],
     };
     Aligned { records: (0..files).map(record).collect(), aligned }
 }
@@ -104,7 +115,7 @@ fn predict(
     match answer.status {
         0 => {
             let fit = Fit { ridge: answer.ridge, r2: answer.r2, n: answer.n as usize, beta };
-            Ok(Predicted { fit, predicted, error })
+            Ok(Predicted { fit, predicted, error, inexact: answer.inexact })
         }
         8 => Err(Error::NoTrainingRow),
         9 => Err(Error::NotSolved),
@@ -131,12 +142,12 @@ pub fn adapted(r: &mut Rng, files: usize, table: &[(u32, Peptide)], rows: &[Row]
     let retention = predict_retention(&peptides, &mut psms);
     let mobility = predict_mobility(&peptides, &mut psms);
     let column = |cell: fn(&Feature) -> f32| psms.iter().map(|psm| cell(&psm.0)).collect();
-    let predicted = |fit: Result<Fit, Error>, predicted, error| {
-        Ok(Predicted { fit: fit?, predicted: column(predicted), error: column(error) })
+    let written = |model: Result<Predicted, Error>, predicted, error| {
+        Ok(Predicted { predicted: column(predicted), error: column(error), ..model? })
     };
     Answer::of(&Run {
         aligned: Aligned { records, aligned: column(|f| f.aligned_rt) },
-        retention: predicted(retention, |f| f.predicted_rt, |f| f.delta_rt_model),
-        mobility: predicted(mobility, |f| f.predicted_ims, |f| f.delta_ims_model),
+        retention: written(retention, |f| f.predicted_rt, |f| f.delta_rt_model),
+        mobility: written(mobility, |f| f.predicted_ims, |f| f.delta_ims_model),
     })
 }

@@ -1,9 +1,9 @@
 //! Pairs whose ends have one peptide table.
 
 use crate::answer::Answer;
-use crate::ends::{agree, all_fields, Count, ONE_TABLE};
+use crate::ends::{all_fields, Count, ONE_TABLE};
 use crate::library::both_by_three_calls;
-use oracle::gen::edits::{stored, PAIRS};
+use oracle::gen::edits::PAIRS;
 use oracle::rng::Rng;
 use oracle::run::Batch;
 use oracle::text::Tokens;
@@ -32,7 +32,8 @@ fn stored_text(name: &str) -> String {
     std::fs::read_to_string(&path).unwrap_or_else(|e| panic!("{}: {e}", path.display()))
 }
 
-/// The stored pairs, in what the program writes: `rt check` holds that to its file `stdout`, byte for byte.
+/// The stored pairs, in what the program writes, which must be what the Rust gives: `rt check` holds that to its file
+/// `stdout`, byte for byte.
 #[test]
 fn the_proved_program_keeps_the_rule() {
     let (cases, text) = (stored_text("stdin"), stored_text("stdout"));
@@ -45,12 +46,12 @@ fn the_proved_program_keeps_the_rule() {
     };
     let runs: Vec<(Batch, Answer)> = (0..n).map(run).collect();
     assert!(cases.is_empty() && text.is_empty());
-    let mut same = 0;
-    for (ends, made) in runs[n - 2 * PAIRS..].chunks(2).zip(stored()) {
-        let marks = [all_fields(&ends[0].0.rows), all_fields(&ends[1].0.rows)];
-        assert_eq!(marks, [all_fields(&made.before.rows), all_fields(&made.after.rows)]);
-        same += agree([&marks[0], &marks[1]], [&ends[0].1, &ends[1].1]).unwrap();
+    let mut count = Count::default();
+    for (pair, ends) in runs[n - 2 * PAIRS..].chunks(2).zip(ONE_TABLE.iter()) {
+        let [(before, was), (after, is)] = pair else { panic!("both ends of a pair") };
+        assert_eq!([all_fields(&before.rows), all_fields(&after.rows)], ends.marks);
+        count.add(ends, ends.hold([was, is]));
     }
-    println!("{PAIRS} pairs, {same} rows at both ends");
-    assert!(same >= 1000);
+    assert_eq!(count.pairs, PAIRS);
+    count.at_least(1000, "one table, the program");
 }
