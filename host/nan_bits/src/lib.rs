@@ -1,7 +1,8 @@
 //! Compiled functions that return a float, those of the crate `float` and `regression::predict`, and
 //! NaNs of many payloads and both signs to try them on. To the proofs there is one NaN and it has no
-//! bits, so what the bits of a result are only a test of the compiled code can tell. `rt staticlib
-//! float_export` makes the library, `cargo test --offline` tests it.
+//! bits, so what the bits of a result are only a test of the compiled code can tell. The flag of the
+//! narrowing is tried on them too. `rt staticlib float_export` makes the library, `cargo test --offline`
+//! tests it.
 
 // Safe where it says so: such a function takes numbers by value, has no `requires` and touches no memory.
 unsafe extern "C" {
@@ -11,6 +12,9 @@ unsafe extern "C" {
     pub safe fn canonical32(x: f32) -> f32;
     #[link_name = "zk_narrow"]
     pub safe fn narrow(x: f64) -> f32;
+    /// Whether the narrowed number equals `x`.
+    #[link_name = "zk_narrow_exact"]
+    pub safe fn narrow_exact(x: f64) -> bool;
     #[link_name = "zk_widen"]
     pub safe fn widen(x: f32) -> f64;
     #[link_name = "zk_abs32"]

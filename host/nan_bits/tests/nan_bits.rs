@@ -1,5 +1,5 @@
-//! A NaN of any payload or sign comes out of the compiled code as 7FF8000000000000 or 7FC00000, and a
-//! number as it went in.
+//! A NaN of any payload or sign comes out of the compiled code as 7FF8000000000000 or 7FC00000 and is not
+//! exact, and a number comes out as it went in.
 use nan_bits::*;
 
 fn is64(what: &str, from: u64, x: f64, want: u64) {
@@ -29,6 +29,7 @@ fn f64_nans() {
         is64("canonical64", b, canonical64(x), NAN64);
         is64("from_bits64", b, from_bits64(b), NAN64);
         is32("narrow", b, narrow(x), NAN32);
+        assert!(!narrow_exact(x), "{b:016X} is a NaN and exact");
         is64("min64 with a NaN", b, min64(x, other), NAN64);
         is64("min64 before a number", b, min64(x, 1.5), 1.5f64.to_bits());
         is64("min64 after a number", b, min64(1.5, x), 1.5f64.to_bits());
@@ -78,6 +79,7 @@ fn numbers_stay() {
         is64("canonical64", b, canonical64(x), b);
         is64("from_bits64", b, from_bits64(b), b);
         is32("narrow", b, narrow(x), (x as f32).to_bits());
+        assert_eq!(narrow_exact(x), (x as f32) as f64 == x, "{b:016X}");
         is64("min64", b, min64(x, x), b);
         is64("clamp64", b, clamp64(x, f64::NEG_INFINITY, f64::INFINITY), b);
     }
@@ -87,5 +89,6 @@ fn numbers_stay() {
         is32("from_bits32", b.into(), from_bits32(b), b);
         is32("abs32", b.into(), abs32(x), x.abs().to_bits());
         is64("widen", b.into(), widen(x), f64::from(x).to_bits());
+        assert!(narrow_exact(f64::from(x)), "{b:08X} is not exact");
     }
 }
