@@ -51,13 +51,13 @@ predictions model i =
     (map (predictionOf model (i .table) (fit .coefficients)) (queries (i .peptides) (i .charges)))
     []
 
--- and how many of them narrowing changes: 0 where the fit is not solved
+abbrev pub errors : Model → Input → List Float
+errors model i = zipWith errorOf (i .observed) (predictions model i)
+
+-- how many of the predictions narrowing changes; 0 where the fit is not solved
 abbrev pub inexact : Model → Input → ℕ
 inexact model i =
     let fit = fitOfInput model i in
     cond (isSolved (fit .outcome))
     (inexactIn model (i .table) (fit .coefficients) (queries (i .peptides) (i .charges)))
     0
-
-abbrev pub errors : Model → Input → List Float
-errors model i = zipWith errorOf (i .observed) (predictions model i)

@@ -61,6 +61,6 @@ fn is_model(
         Fit::NoTrainingRows => 8,
         Fit::NotSolved => 9,
     };
-    let got = got.map_or_else(|e| (e.number(), 0), |model| (0, model.inexact as usize));
+    let got = got.map_or_else(|e| (e.number(), 0), |model| (0, model.inexact));
     same(&format!("{what}'s number and inexact"), got, (number, inexact))
 }

@@ -28,7 +28,7 @@ pub struct Predicted {
     pub error: Vec<f32>,
     /// How many of the predictions are not exact: each is worked out as an f64, and the f32 does not equal that. NaN
     /// equals nothing, so every NaN counts.
-    pub inexact: u32,
+    pub inexact: usize,
 }
 
 impl Fit {
@@ -51,7 +51,7 @@ impl Predicted {
         call: &Call,
     ) -> Result<Predicted, Error> {
         let fit = Fit::of(answer, beta, call)?;
-        Ok(Predicted { fit, predicted, error, inexact: answer.inexact })
+        Ok(Predicted { fit, predicted, error, inexact: answer.inexact as usize })
     }
 }
 

@@ -1,9 +1,10 @@
 -- `retention_alignment::global_alignment` meets its contract: by the status, and with the work's parts written back.
-use mathlib.Core.Path.{sym, _∙_}
-use Prim.Native.Nat.{_≤_}
+use mathlib.Core.Path.{_≡_, sym, _∙_}
+use mathlib.Core.List.{List, _++_}
+use Prim.Native.Nat.{ℕ, _≤_}
 use native.Mathlib.Omega.{arith}
 use borrow.Author.Needs.{needs}
-use lib.ListN.{length}
+use lib.ListN.{length, take, drop, length-append, length-drop}
 use lib.Seq.{length-take-le}
 use Rattle.rt_matrix.specs.Columns.{fileColumnsAt}
 use Rattle.rt_matrix.proofs.RecordColumns.{first-each}
@@ -155,32 +156,69 @@ align-requires c κs =
       aligned = length-take-le _ _ (p .aligned);
     }
 
+-- a slice whose first n cells were lent has its length again
+lent-back : {A : Type 0} (n : ℕ) (part old : List A) → length part ≡ length (take n old) → n ≤ length old
+    → length (part ++ drop n old) ≡ length old
+lent-back n part old e h =
+    omega (arith, length-append part (drop n old), length-drop n old, length-take-le n old h)
+
+-- what was counted and checked, as the end sees it
+abbrev counted : tie.After-slice-known18 → tie.After-cell-count
+counted c = lent9 (worked c .before)
+
 same-length : tie.Need-same-length
-same-length c = search needs
+same-length c =
+    let w = worked c .align in
+    lent-back _ (w .last .1 .1 .1 .1 .1 .1 .1 .0) _ (w .kept .1 .1 .1 .1 .1 .1 .1 .0)
+    (cells-fit (counted c))
 
 same-length-2 : tie.Need-same-length-2
-same-length-2 c = search needs
+same-length-2 c =
+    let w = worked c .align in
+    lent-back _ (w .last .1 .1 .1 .1 .1 .1 .1 .1 .0) _ (w .kept .1 .1 .1 .1 .1 .1 .1 .1 .0)
+    (checks (counted c .before) .records .maxRt)
 
 same-length-3 : tie.Need-same-length-3
-same-length-3 c = search needs
+same-length-3 c =
+    let w = worked c .align in
+    lent-back _ (w .last .1 .1 .1 .1 .1 .1 .1 .1 .1 .0) _ (w .kept .1 .1 .1 .1 .1 .1 .1 .1 .1 .0)
+    (checks (counted c .before) .records .slope)
 
 same-length-4 : tie.Need-same-length-4
-same-length-4 c = search needs
+same-length-4 c =
+    let w = worked c .align in
+    lent-back _ (w .last .1 .1 .1 .1 .1 .1 .1 .1 .1 .1 .0) _ (w .kept .1 .1 .1 .1 .1 .1 .1 .1 .1 .1 .0)
+    (checks (counted c .before) .records .intercept)
 
 same-length-5 : tie.Need-same-length-5
-same-length-5 c = search needs
+same-length-5 c =
+    let w = worked c .align in
+    lent-back _ (w .last .1 .1 .1 .1 .1 .1 .1 .1 .1 .1 .1 .0) _ (w .kept .1 .1 .1 .1 .1 .1 .1 .1 .1 .1 .1 .0)
+    (checks (counted c .before) .records .used)
 
 same-length-6 : tie.Need-same-length-6
-same-length-6 c = search needs
+same-length-6 c =
+    let w = worked c .align in
+    lent-back _ (w .last .1 .1 .1 .1 .1 .1 .1 .1 .1 .1 .1 .1 .0) _ (w .kept .1 .1 .1 .1 .1 .1 .1 .1 .1 .1 .1 .1 .0)
+    (checks (counted c .before) .records .maxRtExact)
 
 same-length-7 : tie.Need-same-length-7
-same-length-7 c = search needs
+same-length-7 c =
+    let w = worked c .align in
+    lent-back _ (w .last .1 .1 .1 .1 .1 .1 .1 .1 .1 .1 .1 .1 .1 .0) _ (w .kept .1 .1 .1 .1 .1 .1 .1 .1 .1 .1 .1 .1 .1 .0)
+    (checks (counted c .before) .records .slopeExact)
 
 same-length-8 : tie.Need-same-length-8
-same-length-8 c = search needs
+same-length-8 c =
+    let w = worked c .align in
+    lent-back _ (w .last .1 .1 .1 .1 .1 .1 .1 .1 .1 .1 .1 .1 .1 .1 .0) _ (w .kept .1 .1 .1 .1 .1 .1 .1 .1 .1 .1 .1 .1 .1 .1 .0)
+    (checks (counted c .before) .records .interceptExact)
 
 same-length-9 : tie.Need-same-length-9
-same-length-9 c = search needs
+same-length-9 c =
+    let w = worked c .align in
+    lent-back _ (w .last .1 .1 .1 .1 .1 .1 .1 .1 .1 .1 .1 .1 .1 .1 .1 .0) _ (w .kept .1 .1 .1 .1 .1 .1 .1 .1 .1 .1 .1 .1 .1 .1 .1 .0)
+    (checks (counted c .before) .aligned)
 
 returns-2 : tie.Need-returns-2
 returns-2 c =

@@ -2,7 +2,6 @@
 -- points.
 use mathlib.Core.Path.{sym, _∙_}
 use native.Mathlib.Omega.{arith}
-use borrow.Author.Needs.{needs}
 use denote.Ref.{now}
 use lib.ListN.{length}
 use Rattle.rt_matrix.specs.Cells.{sumsOf, Sized}
@@ -85,58 +84,65 @@ store-alignments-requires c κs =
     let g = s .pre .1 in
     (after r, q .add-peptides2 .kept .1 .1 .1 .1 .0 ∙ fresh-squares (length (now (a .max))) (now (a .len)) (now (a .dot)) (now (a .sum-x)) (now (a .sum-y)) (now (a .x-mean)) (now (a .sx2)) (s .pre .0), g .3)
 
--- as the end sees the two calls that leave columns of sums
+-- the four calls, as the end sees them
 abbrev stored : tie.After-slice-known26 → tie.After-store-alignments
-stored c = c .before .before .before .before .before .before .before .before .before .before .before .before .before .before
+stored c =
+    c .before .before .before .before .before .before .before .before .before .before .before .before .before .before
+
+abbrev squared : tie.After-slice-known26 → tie.After-add-peptides2
+squared c = third (stored c .before)
+
+abbrev meant : tie.After-slice-known26 → tie.After-x-means
+meant c = second (squared c .before)
 
 abbrev summed : tie.After-slice-known26 → tie.After-add-peptides
-summed c = first (second (third (stored c .before) .before) .before)
+summed c = first (meant c .before)
 
 same-length : tie.Need-same-length
-same-length c = let r = summed c in search needs
+same-length c = summed c .add-peptides .kept .1 .1 .1 .0
 
 same-length-2 : tie.Need-same-length-2
-same-length-2 c = let r = summed c in search needs
+same-length-2 c = summed c .add-peptides .kept .1 .1 .1 .1 .0
 
 same-length-3 : tie.Need-same-length-3
-same-length-3 c = let r = summed c in search needs
+same-length-3 c = summed c .add-peptides .kept .1 .1 .1 .1 .1 .0
 
 same-length-4 : tie.Need-same-length-4
-same-length-4 c = let r = summed c in search needs
+same-length-4 c = summed c .add-peptides .kept .1 .1 .1 .1 .1 .1 .0
 
 same-length-5 : tie.Need-same-length-5
-same-length-5 c = search needs
+same-length-5 c = meant c .x-means .kept .1 .1 .0
 
 same-length-6 : tie.Need-same-length-6
-same-length-6 c = search needs
+same-length-6 c = squared c .add-peptides2 .kept .1 .1 .1 .1 .0
 
 same-length-7 : tie.Need-same-length-7
-same-length-7 c = search needs
+same-length-7 c = stored c .store-alignments .kept .1 .1 .1 .1 .1 .1 .0
 
 same-length-8 : tie.Need-same-length-8
-same-length-8 c = search needs
+same-length-8 c = stored c .store-alignments .kept .1 .1 .1 .1 .1 .1 .1 .0
 
 same-length-9 : tie.Need-same-length-9
-same-length-9 c = search needs
+same-length-9 c = stored c .store-alignments .kept .1 .1 .1 .1 .1 .1 .1 .1 .0
 
 same-length-10 : tie.Need-same-length-10
-same-length-10 c = search needs
+same-length-10 c = stored c .store-alignments .kept .1 .1 .1 .1 .1 .1 .1 .1 .1 .0
 
 same-length-11 : tie.Need-same-length-11
-same-length-11 c = search needs
+same-length-11 c = stored c .store-alignments .kept .1 .1 .1 .1 .1 .1 .1 .1 .1 .1 .0
 
 same-length-12 : tie.Need-same-length-12
-same-length-12 c = search needs
+same-length-12 c = stored c .store-alignments .kept .1 .1 .1 .1 .1 .1 .1 .1 .1 .1 .1 .0
 
 same-length-13 : tie.Need-same-length-13
-same-length-13 c = search needs
+same-length-13 c = stored c .store-alignments .kept .1 .1 .1 .1 .1 .1 .1 .1 .1 .1 .1 .1 .0
 
 returns : tie.Need-returns
 returns c =
     let t = stored c in
-    let q = third (t .before) in
-    let m = second (q .before) in
-    let r = first (m .before) in
+    let q = squared c in
+    let m = meant c in
+    let r = summed c in
     let s = start (r .before) in
     let a = s .args in
     let w = s .pre .0 in

@@ -22,8 +22,8 @@ use Rattle.rt_matrix.proofs.store_alignments.Statement.{statement}
 use Rattle.rt_matrix.proofs.store_alignments.Tie as tie
 
 -- the columns of the records
-abbrev columns : (max-rt slope intercept : List Float) (used : List ℕ) (max-rt-exact slope-exact intercept-exact : List Bool)
-    → FileColumns
+abbrev columns : (max-rt slope intercept : List Float) (used : List ℕ)
+    (max-rt-exact slope-exact intercept-exact : List Bool) → FileColumns
 columns max-rt slope intercept used max-rt-exact slope-exact intercept-exact =
     record {
       maxRt = max-rt;
@@ -187,25 +187,25 @@ loop-again c =
     )
 
 same-length : tie.Need-same-length Inv-loop μ-loop
-same-length c = search needs
+same-length c = let at = c .before in at .loop .inv .1 .maxRt ∙ sym (start at .pre .2 .maxRt)
 
 same-length-2 : tie.Need-same-length-2 Inv-loop μ-loop
-same-length-2 c = search needs
+same-length-2 c = let at = c .before in at .loop .inv .1 .slope ∙ sym (start at .pre .2 .slope)
 
 same-length-3 : tie.Need-same-length-3 Inv-loop μ-loop
-same-length-3 c = search needs
+same-length-3 c = let at = c .before in at .loop .inv .1 .intercept ∙ sym (start at .pre .2 .intercept)
 
 same-length-4 : tie.Need-same-length-4 Inv-loop μ-loop
-same-length-4 c = search needs
+same-length-4 c = let at = c .before in at .loop .inv .1 .used ∙ sym (start at .pre .2 .used)
 
 same-length-5 : tie.Need-same-length-5 Inv-loop μ-loop
-same-length-5 c = search needs
+same-length-5 c = let at = c .before in at .loop .inv .1 .maxRtExact ∙ sym (start at .pre .2 .maxRtExact)
 
 same-length-6 : tie.Need-same-length-6 Inv-loop μ-loop
-same-length-6 c = search needs
+same-length-6 c = let at = c .before in at .loop .inv .1 .slopeExact ∙ sym (start at .pre .2 .slopeExact)
 
 same-length-7 : tie.Need-same-length-7 Inv-loop μ-loop
-same-length-7 c = search needs
+same-length-7 c = let at = c .before in at .loop .inv .1 .interceptExact ∙ sym (start at .pre .2 .interceptExact)
 
 returns : tie.Need-returns Inv-loop μ-loop
 returns c =

@@ -115,7 +115,7 @@ fn predict(
     match answer.status {
         0 => {
             let fit = Fit { ridge: answer.ridge, r2: answer.r2, n: answer.n as usize, beta };
-            Ok(Predicted { fit, predicted, error, inexact: answer.inexact })
+            Ok(Predicted { fit, predicted, error, inexact: answer.inexact as usize })
         }
         8 => Err(Error::NoTrainingRow),
         9 => Err(Error::NotSolved),
