@@ -225,7 +225,7 @@ examples =
           longest i ++ bits binary32 (after i .records .maxRt);
       said = 4_294_967_295 ∷ 0x4F80_0000 ∷ [];
     }
-    -- "A longest time of 4,294,967,295 has its flag false"
+    -- and that longest time is not exact
     ∷ record { given = take 1 (exact (oneFile 1 (0x4F95_02F9 ∷ []))); said = 0 ∷ [] }
     -- narrowing says true for both zeros, both infinities, 10, the largest and the smallest f32, and false for a NaN,
     -- 4,294,967,295, half of the smallest f32, 1 + 2^-24, and the smallest f64 that becomes an infinity

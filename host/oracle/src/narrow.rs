@@ -2,7 +2,7 @@
 
 use crate::text::bits32;
 
-/// Whether the f32 equals the f64 it came from; a NaN equals nothing.
+/// Whether an f32 is the same number as `x`; a NaN is none.
 pub fn exact(x: f64) -> bool {
     (x as f32) as f64 == x
 }

@@ -1,4 +1,4 @@
-//! Whether an f32 equals the f64 it came from: cases worked out by hand, and the stored records of the flag.
+//! Which f64 are exact as an f32: cases worked out by hand, and the stored records of the flag.
 
 use oracle::alignment::{align, Row};
 use oracle::leaf;
