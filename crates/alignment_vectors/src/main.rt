@@ -5,7 +5,7 @@ use retention_alignment::AlignAnswer;
 use vectors::Token;
 
 // The stored batches are within these.
-const FILES: usize = 1024;
+const FILES: usize = 4096;
 
 const ROWS: usize = 1024;
 

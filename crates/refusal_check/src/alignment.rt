@@ -123,22 +123,24 @@ fn lengths() {
     two(&zeros, &zeros, &rt, 0, 1);
 }
 
-// 2: no file; and, with the room too short as well, 1,025 files, 1,048,577 peptides, and 1,048,576 peptides in 17
-// files.
+// 2: no file; and, with the room too short as well, 4,097 files, 1,048,577 peptides, 1,048,576 peptides in 17 files,
+// and 4,097 peptides in 4,096 files.
 fn limits() {
     one(0, 0, 1, 0, 1, 8);
-    one(0, 0, 1, 1025, 1, 8);
+    one(0, 0, 1, 4097, 1, 8);
     one(0, 0, 1, 1, 1048577, 8);
     one(0, 0, 1, 17, 1048576, 8);
+    one(0, 0, 1, 4096, 4097, 8);
 }
 
 // 3: a workspace of 5 cells for 3 peptides and 2 files; with file 2 of 2, which is 4 too; outputs too short for 5
-// files; 1,024 files, and 1,048,576 peptides in 16 files, which are within the limits.
+// files; 4,096 files with a peptide and with 4,096, and 1,048,576 peptides in 16 files, which are within the limits.
 fn room() {
     one(0, 0, 1, 2, 3, 5);
     one(2, 0, 1, 2, 3, 5);
     one(0, 0, 1, 5, 1, 8);
-    one(0, 0, 1, 1024, 1, 8);
+    one(0, 0, 1, 4096, 1, 8);
+    one(0, 0, 1, 4096, 4096, 8);
     one(0, 0, 1, 16, 1048576, 8);
 }
 

@@ -189,17 +189,17 @@ fn lengths() {
     );
 }
 
-// 2: no file; 1,025 files, for which the room is too short as well. 3: a workspace a cell too short; with offsets past
-// the letters, which is 7 too, and with file 2 of 2, which is 4 too; outputs too short for 5 files; 1,024 files, which
+// 2: no file; 4,097 files, for which the room is too short as well. 3: a workspace a cell too short; with offsets past
+// the letters, which is 7 too, and with file 2 of 2, which is 4 too; outputs too short for 5 files; 4,096 files, which
 // are within the limits.
 fn limits() {
     one(0, 0, 0, b'A', 1, 20300);
-    one(0, 0, 1025, b'A', 1, 20300);
+    one(0, 0, 4097, b'A', 1, 20300);
     one(0, 0, 1, b'A', 1, 20199);
     one(0, 0, 1, b'A', 2, 20199);
     one(2, 0, 2, b'A', 1, 20199);
     one(0, 0, 5, b'A', 1, 20300);
-    one(0, 0, 1024, b'A', 1, 20300);
+    one(0, 0, 4096, b'A', 1, 20300);
 }
 
 // 7: the offsets 0, 2, 1; with a lower-case letter, which is 6 too; a peptide of 256 letters.

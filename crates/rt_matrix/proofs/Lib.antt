@@ -7,4 +7,5 @@ pub mod SumColumns
 pub mod SpreadColumns
 pub mod RecordColumns
 pub mod Fitted
+pub mod Parts
 pub mod Used

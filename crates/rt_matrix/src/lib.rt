@@ -18,6 +18,9 @@ pub use mean::ABSENT;
 use status::MAX_FILES;
 use sums::Sums;
 
+// Up to so many files the sums take small arrays: clearing large ones takes longer than the lines of a small batch.
+const FEW_FILES: usize = 256;
+
 // A file's record: its longest time, its line, how many kept peptides carry the line, and whether each of the three
 // f32 equals the f64 that it was narrowed from. Hosts pass lists of it, hence the layout of C.
 #[repr(C)]
@@ -194,9 +197,8 @@ fn fit_columns(
     );
 }
 
-// Writes the record of each file, from the files' longest times and, peptide by peptide, the smallest time in each file
-// or ABSENT. For `retention_alignment`, which knows the lengths.
-pub fn fit_lines(
+// `fit_lines` for any number of files within the limits, with arrays of the largest number.
+fn fit_many(
     cells: &[f64],
     max: &[u32],
     peptides: usize,
@@ -224,6 +226,71 @@ pub fn fit_lines(
     let mut sum_y = [0.0f64; MAX_FILES];
     let mut x_mean = [0.0f64; MAX_FILES];
     let mut sx2 = [1e-8f64; MAX_FILES];
+    fit_columns(
+        cells,
+        max,
+        peptides,
+        &mut len[..files],
+        &mut dot[..files],
+        &mut sum_x[..files],
+        &mut sum_y[..files],
+        &mut x_mean[..files],
+        &mut sx2[..files],
+        max_rt,
+        slope,
+        intercept,
+        used,
+        max_rt_exact,
+        slope_exact,
+        intercept_exact,
+    );
+}
+
+// Writes the record of each file, from the files' longest times and, peptide by peptide, the smallest time in each file
+// or ABSENT. For `retention_alignment`, which knows the lengths.
+pub fn fit_lines(
+    cells: &[f64],
+    max: &[u32],
+    peptides: usize,
+    max_rt: &mut [f32],
+    slope: &mut [f32],
+    intercept: &mut [f32],
+    used: &mut [u32],
+    max_rt_exact: &mut [bool],
+    slope_exact: &mut [bool],
+    intercept_exact: &mut [bool],
+)
+    requires { ⌜ (length (now cells) ≡ peptides * length (now max))
+        × (peptides < 2 ^ 32)
+        × (length (now max) ≤ maxFiles)
+        × EachOf (length (now max)) (fileColumnsAt
+        «max_rt» slope intercept used «max_rt_exact» «slope_exact» «intercept_exact») ⌝ }
+    ensures { λ _. ⌜ recordsOf (fileColumnsOf
+        «max_rt» slope intercept used «max_rt_exact» «slope_exact» «intercept_exact» .exit)
+        ≡ linesFrom (now (max .entry)) peptides (now (cells .entry)) ⌝ }
+{
+    let files = max.len();
+    if FEW_FILES < files {
+        fit_many(
+            cells,
+            max,
+            peptides,
+            max_rt,
+            slope,
+            intercept,
+            used,
+            max_rt_exact,
+            slope_exact,
+            intercept_exact,
+        );
+        return;
+    }
+    let mut len = [0u32; FEW_FILES];
+    let mut dot = [0.0f64; FEW_FILES];
+    let mut sum_x = [0.0f64; FEW_FILES];
+    let mut sum_y = [0.0f64; FEW_FILES];
+    let mut x_mean = [0.0f64; FEW_FILES];
+    let mut sx2 = [1e-8f64; FEW_FILES];
     fit_columns(
         cells,
         max,

@@ -6,7 +6,7 @@ use lib.Dec.{leb}
 -- ---- of rows and peptides
 
 abbrev pub maxFiles : ℕ
-maxFiles = 1024
+maxFiles = 4096
 
 abbrev pub maxRows : ℕ
 maxRows = 1048576

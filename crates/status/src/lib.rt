@@ -50,7 +50,7 @@ pub const NOT_SOLVED: u8 = 9;
 pub const MALFORMED: u8 = 10;
 
 // The largest numbers of files, rows, peptides, and peptides × files.
-pub const MAX_FILES: usize = 1024;
+pub const MAX_FILES: usize = 4096;
 
 pub const MAX_ROWS: usize = 1048576;
 
