@@ -8,7 +8,7 @@
  *
  *   0  accepted
  *   1  columns that belong together, or a solver's sides against n * n and n * c, differ in length
- *   2  a limit is passed: files 1 to 1,024; rows and peptides to 1,048,576; peptides * files to
+ *   2  a limit is passed: files 1 to 4,096; rows and peptides to 1,048,576; peptides * files to
  *      16,777,216; a solver's order 1 to 100 and right columns 1 to 8
  *   3  work room or an output too short
  *   4  a file number not below the number of files

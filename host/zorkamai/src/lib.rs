@@ -44,7 +44,7 @@ pub use solver::{solve, Solution};
 /// The limits of what may be handed in: those of `crates/status`, as tests/limits.rs holds.
 pub mod limits {
     /// Of files; at least 1.
-    pub const FILES: usize = 1_024;
+    pub const FILES: usize = 4_096;
     /// Of rows.
     pub const ROWS: usize = 1_048_576;
     /// Of peptides.

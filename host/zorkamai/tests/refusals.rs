@@ -35,13 +35,26 @@ fn one() {
 
 #[test]
 fn two() {
-    is(align(&rows(1), 0, 1), 2, "files: 0 is not from 1 to 1024");
-    is(align(&rows(1), 1024, 16_385), 2, "peptides × files: 16778240 is not from 0 to 16777216");
+    is(align(&rows(1), 0, 1), 2, "files: 0 is not from 1 to 4096");
+    is(align(&rows(1), 4_097, 1), 2, "files: 4097 is not from 1 to 4096");
+    is(align(&rows(1), 4_096, 4_097), 2, "peptides × files: 16781312 is not from 0 to 16777216");
     is(align(&rows(1_048_577), 1, 1), 2, "rows: 1048577");
-    is(run(&rows(1), 1025, &table()), 2, "files: 1025 is not from 1 to 1024");
+    is(run(&rows(1), 4_097, &table()), 2, "files: 4097 is not from 1 to 4096");
     is(mobility::fit(&rows(1_048_577), &table()), 2, "rows: 1048577");
     is(solve(&[], &[], 0, 1), 2, "order: 0 is not from 1 to 100");
     is(solve(&[1.0], &[1.0; 9], 1, 9), 2, "right columns: 9 is not from 1 to 8");
+}
+
+/// As many files as may be, with as many peptides as that leaves: the last file's row has the last peptide.
+#[test]
+fn not_two() {
+    let mut last = rows(1);
+    (last.file[0], last.peptide[0]) = (4_095, 4_095);
+    let aligned = align(&last, 4_096, 4_096).expect("within the limits");
+    assert_eq!(aligned.records[4_095].used, 1);
+    last.file[0] = 4_096;
+    is(align(&last, 4_096, 4_096), 4, "row 0 is of file 4096, and there are 4096 files");
+    assert!(run(&rows(1), 4_096, &table()).is_ok());
 }
 
 #[test]
