@@ -45,8 +45,8 @@ use Rattle.align_text.proofs.Statuses.{columns-text}
 
 -- slices with room for any input within the limits
 pub record Roomy (s : Slices) : Type 0 where
-  pub workspace : 512 ≤ length (s .workspace)
-  pub records : EachFrom 8 (s .records)
+  pub workspace : 1024 ≤ length (s .workspace)
+  pub records : EachFrom 16 (s .records)
   pub aligned : 256 ≤ length (s .aligned)
 
 pub records-long : (i : Input) → length (recordsFor i) ≡ i .files
@@ -73,7 +73,7 @@ accepted-number s h = go (eqb s accepted) refl h
 
 module _ (i : Input) (out : List ℕ) (d : Ready i out) where
   module _ (s : Slices) (room : Roomy s) where
-    cells : i .peptides * i .files ≤ 512
+    cells : i .peptides * i .files ≤ 1024
     cells = mul-le-mul (d .peptides) (d .files)
 
     lengths-agree : getD (checks i (roomOf s)) 0 (0, true) .1 ≡ true
@@ -95,7 +95,7 @@ module _ (i : Input) (out : List ℕ) (d : Ready i out) where
     long =
         simp (
           le-leb (i .peptides * i .files) (length (s .workspace)) (omega (arith, cells, room .workspace)),
-          columns-long (i .files) (s .records) (from-less 8 (i .files) (s .records) (d .files) (room .records)),
+          columns-long (i .files) (s .records) (from-less 16 (i .files) (s .records) (d .files) (room .records)),
           le-leb (length (i .file)) (length (s .aligned)) (omega (arith, d .rows, room .aligned)),
         )
 

@@ -28,12 +28,14 @@ use Rattle.align_text.specs.AlignText.{
   withinLimits,
   columnsOf,
   columnsText,
-  inputText,
-  answerTo,
+  inputTextWith,
+  answerWith,
+  alignTextWith,
   alignText,
   columnsStatus,
-  inputStatus,
-  statusTo,
+  inputStatusWith,
+  statusWith,
+  textStatusWith,
   textStatus,
 }
 use Rattle.align_text.specs.Buffer.{Stands}
@@ -50,11 +52,11 @@ restated {s} {s′} {x} {x′} {before} {after} {r} e f h =
 
 pub malformed-is : (t : List ℕ) → IR.Malformed ≡ inputRead (parse t)
     → (malformed ≡ textStatus t) × (statusText malformed ≡ alignText t)
-unfolding alignText textStatus
+unfolding alignTextWith textStatusWith
 malformed-is t h = go (parse t) h
   where
     go : (o : Option Input) → IR.Malformed ≡ inputRead o
-        → (malformed ≡ statusTo o) × (statusText malformed ≡ answerTo o)
+        → (malformed ≡ statusWith maxFiles o) × (statusText malformed ≡ answerWith maxFiles o)
     go none e = (refl, refl)
     go (some d) e = let z : _≡_ {A = ℕ} 0 1 = cc in absurd (omega arith)
 
@@ -92,7 +94,7 @@ pub record Within (f p k : ℕ) : Type 0 where
   pub peptides : p ≤ maxPeptides
   pub rows : k ≤ maxRows
 
-pub within : (f p k : ℕ) → withinLimits f p k ≡ true → Within f p k
+pub within : (f p k : ℕ) → withinLimits maxFiles f p k ≡ true → Within f p k
 within f p k h =
     let a = and-true (leb 1 f && leb f maxFiles && leb p maxPeptides) (leb k maxRows) h in
     let b = and-true (leb 1 f && leb f maxFiles) (leb p maxPeptides) (a .0) in
@@ -108,23 +110,23 @@ module _ (t : List ℕ) (f p k : ℕ) (g : Given t f p k) where
   abbrev d : Input
   d = g .input
 
-  within-is : withinLimits (d .files) (d .peptides) (length (d .rows)) ≡ withinLimits f p k
+  within-is : withinLimits maxFiles (d .files) (d .peptides) (length (d .rows)) ≡ withinLimits maxFiles f p k
   within-is =
-      ap (λ (x : ℕ). withinLimits x (d .peptides) (length (d .rows))) (sym (g .files))
-      ∙ ap (λ (x : ℕ). withinLimits f x (length (d .rows))) (sym (g .peptides))
-      ∙ ap (withinLimits f p) (sym (g .rows))
+      ap (λ (x : ℕ). withinLimits maxFiles x (d .peptides) (length (d .rows))) (sym (g .files))
+      ∙ ap (λ (x : ℕ). withinLimits maxFiles f x (length (d .rows))) (sym (g .peptides))
+      ∙ ap (withinLimits maxFiles f p) (sym (g .rows))
 
-  answer-is : alignText t ≡ cond (withinLimits f p k) (columnsText (columnsOf d)) (statusText pastLimit)
-  unfolding alignText inputText
+  answer-is : alignText t ≡ cond (withinLimits maxFiles f p k) (columnsText (columnsOf d)) (statusText pastLimit)
+  unfolding alignTextWith inputTextWith
   answer-is =
-      ap answerTo (g .parsed)
+      ap (answerWith maxFiles) (g .parsed)
       ∙ ap (λ (b : Bool). cond b (columnsText (columnsOf d)) (statusText pastLimit)) within-is
 
-  status-is : textStatus t ≡ cond (withinLimits f p k) (columnsStatus (columnsOf d)) pastLimit
-  unfolding textStatus inputStatus columnsStatus
-  status-is = ap statusTo (g .parsed) ∙ ap (λ (b : Bool). cond b (columnsStatus (columnsOf d)) pastLimit) within-is
+  status-is : textStatus t ≡ cond (withinLimits maxFiles f p k) (columnsStatus (columnsOf d)) pastLimit
+  unfolding textStatusWith inputStatusWith columnsStatus
+  status-is = ap (statusWith maxFiles) (g .parsed) ∙ ap (λ (b : Bool). cond b (columnsStatus (columnsOf d)) pastLimit) within-is
 
-  pub limited-is : withinLimits f p k ≡ false
+  pub limited-is : withinLimits maxFiles f p k ≡ false
       → (pastLimit ≡ textStatus t) × (statusText pastLimit ≡ alignText t)
   limited-is h = (
     sym (status-is ∙ ap (λ (b : Bool). cond b (columnsStatus (columnsOf d)) pastLimit) h),
@@ -132,7 +134,7 @@ module _ (t : List ℕ) (f p k : ℕ) (g : Given t f p k) where
   )
 
   -- ---- the columns' first cells are the rows
-  module _ (h : withinLimits f p k ≡ true) where
+  module _ (h : withinLimits maxFiles f p k ≡ true) where
     module _ (zs : Columns) (file peptide : List ℕ) (label : List ℤ) (q rt : List Float) (e : columns file peptide label q rt ≡ stored zs 0 (d .rows))
         (lf : k ≤ length file) (lp : k ≤ length peptide) (ll : k ≤ length label) (lq : k ≤ length q) (lt : k ≤ length rt) where
       counted : {A : Type 0} (get : TextRow → A) → length (map get (d .rows)) ≡ k

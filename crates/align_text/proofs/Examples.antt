@@ -32,9 +32,11 @@ use Rattle.align_text.specs.AlignText.{
   columnsOf,
   alignmentText,
   columnsText,
-  inputText,
+  inputTextWith,
+  alignTextWith,
   alignText,
-  inputStatus,
+  inputStatusWith,
+  textStatusWith,
   textStatus,
   callStatus,
   writtenTo,
@@ -78,16 +80,16 @@ tests =
 
 pub examples : map (λ (t : List ℕ × List ℕ). alignText (t .0)) tests
     ≡ map (λ (t : List ℕ × List ℕ). t .1) tests
-unfolding alignText inputText columnsText alignmentText columnsOf acceptedText filesText fileText alignedText floatLine statusText flatten headD decimalOf decimalOnto hexOf hexDigit toBits nanBits parse headRead rowsOf rowsFrom rowRead decimalLine signedLine hexLine firstLine keyed lineOf startsWith readDecimal readFrom isDigit readSigned negative nonNegative readHexDigits readHex digitValue allHex hexValue every observations maxRt maxRts times smaller minRt minRts alignments onLine aligned mask kept trains ceiling minimum tabulate lines line RL.lineOf share present mean keptRows pointOf points finiteOr isFinite isNormal narrowed round add sub mul div lt le eq ofInt toUnsigned ofBits zipWith
+unfolding alignTextWith inputTextWith columnsText alignmentText columnsOf acceptedText filesText fileText alignedText floatLine statusText flatten headD decimalOf decimalOnto hexOf hexDigit toBits nanBits parse headRead rowsOf rowsFrom rowRead decimalLine signedLine hexLine firstLine keyed lineOf startsWith readDecimal readFrom isDigit readSigned negative nonNegative readHexDigits readHex digitValue allHex hexValue every observations maxRt maxRts times smaller minRt minRts alignments onLine aligned mask kept trains ceiling minimum tabulate lines line RL.lineOf share present mean keptRows pointOf points finiteOr isFinite isNormal narrowed round add sub mul div lt le eq ofInt toUnsigned ofBits zipWith
 examples = refl
 
 -- the numbers of these texts
 pub statuses : map (λ (t : List ℕ × List ℕ). textStatus (t .0)) tests
     ≡ 0 ∷ 0 ∷ 0 ∷ 0 ∷ 0 ∷ 2 ∷ 4 ∷ 5 ∷ 10 ∷ []
-unfolding textStatus inputStatus columnsOf parse headRead rowsOf rowsFrom rowRead decimalLine signedLine hexLine firstLine keyed lineOf startsWith readDecimal readFrom isDigit readSigned negative nonNegative readHexDigits readHex digitValue allHex hexValue every
+unfolding textStatusWith inputStatusWith columnsOf parse headRead rowsOf rowsFrom rowRead decimalLine signedLine hexLine firstLine keyed lineOf startsWith readDecimal readFrom isDigit readSigned negative nonNegative readHexDigits readHex digitValue allHex hexValue every
 statuses = refl
 
 -- the answer to a malformed text is 10 also where its line does not fit
 pub malformed-unwritten : answerOf (callStatus (closed ("files=+1" ∷ [])) (0 ∷ [])) (writtenTo (closed ("files=+1" ∷ [])) (0 ∷ [])) ≡ Refused 10 0
-unfolding answerOf callStatus textStatus alignText statusText decimalOf decimalOnto parse headRead rowsOf rowsFrom rowRead decimalLine signedLine hexLine firstLine keyed lineOf startsWith readDecimal readFrom isDigit readSigned negative nonNegative readHexDigits readHex digitValue allHex hexValue every
+unfolding answerOf callStatus textStatusWith alignTextWith statusText decimalOf decimalOnto parse headRead rowsOf rowsFrom rowRead decimalLine signedLine hexLine firstLine keyed lineOf startsWith readDecimal readFrom isDigit readSigned negative nonNegative readHexDigits readHex digitValue allHex hexValue every
 malformed-unwritten = refl

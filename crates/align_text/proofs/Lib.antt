@@ -4,4 +4,5 @@ pub mod Answers
 pub mod Contract
 pub mod Examples
 pub mod Longest
+pub mod MoreFiles
 pub mod Statuses

@@ -1,4 +1,4 @@
--- No answer is longer than 5,010 bytes: the status, eight files and 256 rows.
+-- No answer is longer than 5,650 bytes: the status, 16 files and 256 rows.
 use mathlib.Core.Path.{_≡_, refl, sym, ap, _∙_}
 use mathlib.Core.Bool.{Bool, true, false, cond}
 use mathlib.Core.List.{List, map}
@@ -27,12 +27,14 @@ use Rattle.align_output.specs.declared.Printed.{Printed}
 use Rattle.align_output.proofs.Lengths.{Counted, status-length, accepted-length}
 use Rattle.align_text.specs.declared.TextAnswer.{TextAnswer}
 use Rattle.align_text.specs.AlignText.{
+  maxFiles,
   withinLimits,
   columnsOf,
   alignmentText,
   columnsText,
-  inputText,
-  answerTo,
+  inputTextWith,
+  answerWith,
+  alignTextWith,
   alignText,
   textStatus,
   fits,
@@ -45,7 +47,7 @@ use Rattle.align_text.proofs.Answers.{within}
 use Rattle.align_text.proofs.Contract.{fitting}
 
 abbrev pub longest : ℕ
-longest = 5010
+longest = 5650
 
 -- the longer of two texts
 either : (b : Bool) (x y : List ℕ) (n : ℕ) → (b ≡ true → length x ≤ n) → length y ≤ n
@@ -64,7 +66,7 @@ counts i k =
     let count : length times ≡ i .peptides = length-tabulate _ _ in
     omega (arith, used-few (maxRts (i .files) (rows i)) times k, count)
 
-module _ (i : Call.Input) (files : i .files ≤ 8) (peptides : i .peptides ≤ 64) (count : length (rows i) ≤ 256) where
+module _ (i : Call.Input) (files : i .files ≤ maxFiles) (peptides : i .peptides ≤ 64) (count : length (rows i) ≤ 256) where
   alignment-short : length (alignmentText i) ≤ longest
   unfolding alignmentText
   alignment-short =
@@ -95,21 +97,21 @@ rows-count d =
     (map rtOf (d .rows)) (length-map (d .rows) (λ r. r .peptide) ∙ sym f) (length-map (d .rows) rtOf ∙ sym f)
     ∙ f
 
-input-short : (d : Input) → length (inputText d) ≤ longest
-unfolding inputText columnsOf
+input-short : (d : Input) → length (inputTextWith maxFiles d) ≤ longest
+unfolding inputTextWith columnsOf
 input-short d =
-    either (withinLimits (d .files) (d .peptides) (length (d .rows))) _ _ longest
+    either (withinLimits maxFiles (d .files) (d .peptides) (length (d .rows))) _ _ longest
     (λ h.
     let w = within (d .files) (d .peptides) (length (d .rows)) h in
     columns-short (columnsOf d) (w .files) (w .peptides) (omega (arith, rows-count d, w .rows)))
     (status-short 2 (omega arith))
 
-answer-short : (o : Option Input) → length (answerTo o) ≤ longest
+answer-short : (o : Option Input) → length (answerWith maxFiles o) ≤ longest
 answer-short none = status-short 10 (omega arith)
 answer-short (some d) = input-short d
 
 pub text-short : (t : List ℕ) → length (alignText t) ≤ longest
-unfolding alignText
+unfolding alignTextWith
 text-short t = answer-short (parse t)
 
 -- an output of that length takes every answer: the call's number is the text's, and what is written is the whole text

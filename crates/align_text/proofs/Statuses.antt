@@ -16,17 +16,20 @@ use Rattle.align_input.specs.Input.{Input}
 use Rattle.align_input.specs.Parse.{parse}
 use Rattle.align_output.specs.Output.{statusText, acceptedText}
 use Rattle.align_text.specs.AlignText.{
+  maxFiles,
   withinLimits,
   columnsOf,
   alignmentText,
   columnsText,
-  inputText,
-  answerTo,
+  inputTextWith,
+  answerWith,
+  alignTextWith,
   alignText,
   columnChecks,
   columnsStatus,
-  inputStatus,
-  statusTo,
+  inputStatusWith,
+  statusWith,
+  textStatusWith,
   textStatus,
 }
 
@@ -45,9 +48,10 @@ columns-text i = go (allBelow (i .files) (i .file)) (allBelow (i .peptides) (i .
     go true false t = refl
     go true true t = refl
 
-input-text : (d : Input) → inputText d ≡ byStatus (inputStatus d) (alignmentText (columnsOf d))
-unfolding inputText inputStatus columnsStatus
-input-text d = go (withinLimits (d .files) (d .peptides) (length (d .rows)))
+input-text : (d : Input)
+    → inputTextWith maxFiles d ≡ byStatus (inputStatusWith maxFiles d) (alignmentText (columnsOf d))
+unfolding inputTextWith inputStatusWith columnsStatus
+input-text d = go (withinLimits maxFiles (d .files) (d .peptides) (length (d .rows)))
   where
     go : (b : Bool)
         → cond b (columnsText (columnsOf d)) (statusText pastLimit)
@@ -62,10 +66,10 @@ alignmentOf (some d) = alignmentText (columnsOf d)
 
 -- the text of a text's answer is the line of its number, or for 0 its alignment
 pub text-by-status : (t : List ℕ) → alignText t ≡ byStatus (textStatus t) (alignmentOf (parse t))
-unfolding alignText textStatus
+unfolding alignTextWith textStatusWith
 text-by-status t = go (parse t)
   where
-    go : (o : Option Input) → answerTo o ≡ byStatus (statusTo o) (alignmentOf o)
+    go : (o : Option Input) → answerWith maxFiles o ≡ byStatus (statusWith maxFiles o) (alignmentOf o)
     go none = refl
     go (some d) = input-text d
 
@@ -87,14 +91,14 @@ accepted-begins n e i text h =
 
 -- and every answer begins with the line of its text's number
 pub first-line : (t : List ℕ) → Begins (textStatus t) (alignText t)
-unfolding textStatus
+unfolding textStatusWith
 first-line t = go (eqb (textStatus t) accepted) refl (parse t) refl (text-by-status t)
   where
     go : (b : Bool) → eqb (textStatus t) accepted ≡ b → (o : Option Input) → parse t ≡ o
         → alignText t ≡ cond b (alignmentOf o) (statusText (textStatus t)) → Begins (textStatus t) (alignText t)
     go false e o p h = record { rest = []; whole = h ∙ sym (append-nil (statusText (textStatus t))) }
     go true e none p h =
-        let z : false ≡ true = ap (λ (x : Option Input). eqb (statusTo x) accepted) (sym p) ∙ e in
+        let z : false ≡ true = ap (λ (x : Option Input). eqb (statusWith maxFiles x) accepted) (sym p) ∙ e in
         let y : _≡_ {A = ℕ} 0 1 = cc in
         absurd (omega arith)
     go true e (some d) p h = accepted-begins (textStatus t) e (columnsOf d) (alignText t) h

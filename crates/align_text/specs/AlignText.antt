@@ -23,7 +23,7 @@ use Rattle.align_text.specs.declared.TextAnswer.the-variants.{Accepted, 
 
 -- the program's limits
 abbrev pub maxFiles : ℕ
-maxFiles = 8
+maxFiles = 16
 
 abbrev pub maxPeptides : ℕ
 maxPeptides = 64
@@ -31,8 +31,10 @@ maxPeptides = 64
 abbrev pub maxRows : ℕ
 maxRows = 256
 
-abbrev pub withinLimits : (files peptides rows : ℕ) → Bool
-withinLimits files peptides rows = leb 1 files && leb files maxFiles && leb peptides maxPeptides && leb rows maxRows
+-- whether these numbers are within them, for a program that takes `most` files
+abbrev pub withinLimits : (most files peptides rows : ℕ) → Bool
+withinLimits most files peptides rows =
+    leb 1 files && leb files most && leb peptides maxPeptides && leb rows maxRows
 
 -- an input's rows as the alignment's columns
 unfoldable pub columnsOf : Input → Call.Input
@@ -60,20 +62,25 @@ columnsText i =
     (cond (allBelow (i .peptides) (i .peptide)) (alignmentText i) (statusText badPeptide))
     (statusText badFile)
 
--- the text of the answer to an input
-unfoldable pub inputText : Input → List ℕ
+-- the text of the answer to an input, of a program that takes `most` files
+unfoldable pub inputTextWith : (most : ℕ) → Input → List ℕ
 unfolding columnsText columnsOf statusText
-inputText d =
-    cond (withinLimits (d .files) (d .peptides) (length (d .rows))) (columnsText (columnsOf d)) (statusText pastLimit)
+inputTextWith most d =
+    cond (withinLimits most (d .files) (d .peptides) (length (d .rows))) (columnsText (columnsOf d))
+    (statusText pastLimit)
 
-abbrev pub answerTo : Option Input → List ℕ
-answerTo none = statusText malformed
-answerTo (some d) = inputText d
+abbrev pub answerWith : (most : ℕ) → Option Input → List ℕ
+answerWith most none = statusText malformed
+answerWith most (some d) = inputTextWith most d
 
--- the whole text that the program writes for a text
-unfoldable pub alignText : List ℕ → List ℕ
-unfolding parse inputText statusText
-alignText t = answerTo (parse t)
+-- the whole text that such a program writes for a text
+unfoldable pub alignTextWith : (most : ℕ) → List ℕ → List ℕ
+unfolding parse inputTextWith statusText
+alignTextWith most t = answerWith most (parse t)
+
+-- what this program writes
+abbrev pub alignText : List ℕ → List ℕ
+alignText t = alignTextWith maxFiles t
 
 -- ---- the number of a text: the first of document 01's checks that fails
 
@@ -85,19 +92,24 @@ unfoldable pub columnsStatus : Call.Input → ℕ
 columnsStatus i = firstFailing (columnChecks i)
 
 -- the limits come before
-unfoldable pub inputStatus : Input → ℕ
+unfoldable pub inputStatusWith : (most : ℕ) → Input → ℕ
 unfolding columnsOf
-inputStatus d =
-    firstFailing ((pastLimit, withinLimits (d .files) (d .peptides) (length (d .rows))) ∷ columnChecks (columnsOf d))
+inputStatusWith most d =
+    firstFailing
+    ((pastLimit, withinLimits most (d .files) (d .peptides) (length (d .rows))) ∷ columnChecks (columnsOf d))
 
-abbrev pub statusTo : Option Input → ℕ
-statusTo none = malformed
-statusTo (some d) = inputStatus d
+abbrev pub statusWith : (most : ℕ) → Option Input → ℕ
+statusWith most none = malformed
+statusWith most (some d) = inputStatusWith most d
 
 -- 10 comes before all
-unfoldable pub textStatus : List ℕ → ℕ
-unfolding parse inputStatus
-textStatus t = statusTo (parse t)
+unfoldable pub textStatusWith : (most : ℕ) → List ℕ → ℕ
+unfolding parse inputStatusWith
+textStatusWith most t = statusWith most (parse t)
+
+-- the number of a text for this program
+abbrev pub textStatus : List ℕ → ℕ
+textStatus t = textStatusWith maxFiles t
 
 -- ---- a call
 

@@ -4,7 +4,7 @@ ghost use Prim.Native.Nat.{_≤_};
 ghost use lib.ListN.{length};
 ghost use Rattle.retention_alignment.specs.Call.{inputAt, inputOf};
 ghost use Rattle.align_output.specs.Output.{statusText};
-ghost use Rattle.align_text.specs.AlignText.{withinLimits, writtenIn, Answered};
+ghost use Rattle.align_text.specs.AlignText.{maxFiles, withinLimits, writtenIn, Answered};
 ghost use Rattle.align_text.specs.Buffer.{Stands, ColumnsStand, TextStands};
 ghost use Rattle.align_text.specs.Ready.{Ready};
 use align_input::InputRead;
@@ -13,16 +13,16 @@ use align_output::write_status;
 use retention_alignment::AlignAnswer;
 
 // The program's limits.
-pub const FILES_MAX: usize = 8;
+pub const FILES_MAX: usize = 16;
 
 pub const PEPTIDES_MAX: usize = 64;
 
 pub const ROWS_MAX: usize = 256;
 
 // Cells of the alignment's workspace.
-const CELLS_MAX: usize = 512;
+const CELLS_MAX: usize = 1024;
 
-// Bytes of the buffer that an answer is made in. An answer has at most 5,010.
+// Bytes of the buffer that an answer is made in. An answer has at most 5,650.
 const TEXT_MAX: usize = 8192;
 
 // What a call did.
@@ -52,7 +52,7 @@ pub fn written(answer: TextAnswer) -> usize
 
 // Whether numbers of files, peptides and rows are within the program's limits.
 fn limits(files: u32, peptides: u32, rows: usize) -> bool
-    ensures { λ r. ⌜ r ≡ withinLimits files peptides rows ⌝ }
+    ensures { λ r. ⌜ r ≡ withinLimits maxFiles files peptides rows ⌝ }
 {
     if files < 1 {
         return false;
@@ -172,7 +172,7 @@ fn answer_text(input: &[u8], out: &mut [u8]) -> Buffered
 }
 
 // The program: reads a text and writes its answer at the start of output. Where the answer is longer than output,
-// nothing is written. No answer is longer than 5,010 bytes.
+// nothing is written. No answer is longer than 5,650 bytes.
 pub fn align_text(input: &[u8], output: &mut [u8]) -> TextAnswer
     ensures { λ r. ⌜ Answered (now (input .entry)) (now (output .entry)) r (now (output .exit)) ⌝ }
 {

@@ -54,6 +54,13 @@ fn limits() {
     text(input, 8);
 }
 
+// 2: 17 files. 3: 9 files and 16, which are accepted: their answers have more than 128 bytes.
+fn files() {
+    text(b"files=17\npeptides=0\n", 9);
+    text(b"files=9\npeptides=0\n", 128);
+    text(b"files=16\npeptides=0\n", 128);
+}
+
 // 4: file 2 of 2; with peptide 1 of 1, which is 5 too. 5: peptide 1 of 1. Each with room for its line and with none.
 fn numbers() {
     let file = b"files=2\npeptides=1\nfile=2\npeptide=0\nlabel=1\nq=00000000\nrt=41200000\n";
@@ -78,6 +85,7 @@ fn accepted() {
 fn main() {
     malformed();
     limits();
+    files();
     numbers();
     accepted();
 }

@@ -35,9 +35,9 @@ use Rattle.rt_matrix.specs.Line.{share, present, mean, keptRows, pointOf, point
 use Rattle.retention_alignment.specs.Observation.{observations, maxRt, maxRts, times, smaller, minRt, minRts}
 use Rattle.retention_alignment.specs.Alignments.{alignments, onLine, aligned}
 use Rattle.retention_alignment.specs.Call.{statusBy, filled, slicesAfter}
-use Rattle.align_text.specs.AlignText.{alignText}
+use Rattle.align_text.specs.AlignText.{alignTextWith}
 use Rattle.examples.specs.Examples.{sameList, holds, examples}
 
 pub all-hold : every holds examples ≡ true
-unfolding every sameList examples zipWith headD sub mul div eq lt le ofInt ofBits toBits narrowed ceiling isFinite isNormal isNan minimum clamped columnOf placeFrom validAa rowsOf flat trains mask kept indexed augmented zipped largest cleared clearBelow columnEliminated echelonFrom leadingZeros divided lessMultiple clearAbove backfillFrom rowSolved solvedFrom eliminate ridgesFrom firstSolved solutionOf normal fitOf dot range howMany design tabulate share present mean keptRows pointOf points finiteOr lineOf line lines observations maxRt maxRts times smaller minRt minRts alignments onLine aligned statusBy filled slicesAfter alignText
+unfolding every sameList examples zipWith headD sub mul div eq lt le ofInt ofBits toBits narrowed ceiling isFinite isNormal isNan minimum clamped columnOf placeFrom validAa rowsOf flat trains mask kept indexed augmented zipped largest cleared clearBelow columnEliminated echelonFrom leadingZeros divided lessMultiple clearAbove backfillFrom rowSolved solvedFrom eliminate ridgesFrom firstSolved solutionOf normal fitOf dot range howMany design tabulate share present mean keptRows pointOf points finiteOr lineOf line lines observations maxRt maxRts times smaller minRt minRts alignments onLine aligned statusBy filled slicesAfter alignTextWith
 all-hold = refl

@@ -8,7 +8,7 @@ use sage::database::PeptideIx;
 pub const BYTES: usize = 65_536;
 
 /// The limits of files, peptides and rows.
-const LIMITS: [usize; 3] = [8, 64, 256];
+const LIMITS: [usize; 3] = [16, 64, 256];
 
 /// What a text says.
 struct Input {

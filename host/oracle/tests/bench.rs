@@ -94,7 +94,8 @@ fn the_programs_text() {
     assert_eq!(program(text.as_bytes()), line.to_string() + "used=1\naligned=3F800000\n");
     let status = |text: &str, n: u8| assert_eq!(program(text.as_bytes()), format!("status={n}\n"));
     status(&text.replace("files=1", "files=+1"), 10);
-    status(&(text.replace("files=1", "files=9") + "file=0\n"), 10);
+    status(&(text.replace("files=1", "files=17") + "file=0\n"), 10);
+    status(&text.replace("files=1", "files=17"), 2);
     status(&text.replace("files=1", "files=0").replace("file=0", "file=7"), 2);
     status(&text.replace("peptides=1", "peptides=65"), 2);
     status(&(head.to_string() + &rows.repeat(257)), 2);
@@ -102,11 +103,13 @@ fn the_programs_text() {
     status(&text.replace("peptide=0", "peptide=1"), 5);
 }
 
-/// A text of no rows, and one with twelve peptides at the longest time.
+/// A text of no rows, one of sixteen files, and one with twelve peptides at the longest time.
 #[test]
 fn the_programs_counts() {
     let none = "status=0\nfile=0\nmax=00000000\nslope=3F800000\nintercept=00000000\nused=0\n";
     assert_eq!(program(b"files=1\npeptides=1\n"), none);
+    let last = none.replace("status=0\nfile=0", "file=15");
+    assert!(program(b"files=16\npeptides=64\n").ends_with(&last));
     let row = |i| format!("file=0\npeptide={i}\nlabel=1\nq=00000000\nrt=41200000\n");
     let text: String = (0..12).map(row).collect();
     let answer = program(format!("files=1\npeptides=12\n{text}").as_bytes());

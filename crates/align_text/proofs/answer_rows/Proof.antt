@@ -33,10 +33,10 @@ aligned c = c .before .before .before .before .before .before .before .before .b
 
 -- the outputs are as long as they were made
 record Kept (g : tie.After-global-alignment) : Type 0 where
-  max-rt : length (g .global-alignment .last .1 .1 .1 .1 .1 .1 .1 .1 .0) ≡ 8
-  slope : length (g .global-alignment .last .1 .1 .1 .1 .1 .1 .1 .1 .1 .0) ≡ 8
-  intercept : length (g .global-alignment .last .1 .1 .1 .1 .1 .1 .1 .1 .1 .1 .0) ≡ 8
-  used : length (g .global-alignment .last .1 .1 .1 .1 .1 .1 .1 .1 .1 .1 .1 .0) ≡ 8
+  max-rt : length (g .global-alignment .last .1 .1 .1 .1 .1 .1 .1 .1 .0) ≡ 16
+  slope : length (g .global-alignment .last .1 .1 .1 .1 .1 .1 .1 .1 .1 .0) ≡ 16
+  intercept : length (g .global-alignment .last .1 .1 .1 .1 .1 .1 .1 .1 .1 .1 .0) ≡ 16
+  used : length (g .global-alignment .last .1 .1 .1 .1 .1 .1 .1 .1 .1 .1 .1 .0) ≡ 16
   aligned : length (g .global-alignment .last .1 .1 .1 .1 .1 .1 .1 .1 .1 .1 .1 .1 .1 .1 .1 .0) ≡ 256
 
 kept : (g : tie.After-global-alignment) → Kept g
@@ -51,7 +51,7 @@ kept g =
     }
 
 -- the parts that are written of
-files-in : {A : Type 0} (g : tie.After-global-alignment) (l : List A) → length l ≡ 8
+files-in : {A : Type 0} (g : tie.After-global-alignment) (l : List A) → length l ≡ 16
     → length (take (start g .args .files) l) ≡ start g .args .files
 files-in g l e = length-take-le _ l (omega (arith, ready g .files))
 

@@ -10,7 +10,7 @@ use lib.ListN.{length}
 use lib.Seq.{length-take-le}
 use denote.Ref.{now}
 use borrow.Author.Tests.{not-true, not-false}
-use Rattle.align_text.specs.AlignText.{withinLimits}
+use Rattle.align_text.specs.AlignText.{maxFiles, withinLimits}
 use Rattle.align_text.proofs.Answers.{
   malformed-is,
   Given,
@@ -63,7 +63,7 @@ rts₀ r = r .read-input .last .1 .1 .1 .1 .1 .0
 
 -- within the limits
 passed : (e : tie.Else1)
-    → withinLimits (files (e .before .before .before)) (peptides (e .before .before .before))
+    → withinLimits maxFiles (files (e .before .before .before)) (peptides (e .before .before .before))
     (rows (e .before .before .before)) ≡ true
 passed e = sym (e .before .limits .ensures) ∙ not-false _ (e .if1 .left)
 

@@ -48,6 +48,10 @@ fn batches() -> Vec<Rows> {
     all.extend((0..40).map(|_| level(&mut r)));
     all.push(plain(&mut r, 1024, 3, 40));
     all.push(plain(&mut r, 40, 200, 900));
+    // where the library takes larger arrays, and as many files as may be
+    all.push(plain(&mut r, 256, 30, 300));
+    all.push(plain(&mut r, 257, 30, 300));
+    all.push(plain(&mut r, 4096, 2, 500));
     all
 }
 

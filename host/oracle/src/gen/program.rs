@@ -32,6 +32,7 @@ fn texts() -> Vec<Vec<u8>> {
     all.extend(malformed(&mut r));
     let mut all: Vec<Vec<u8>> = all.into_iter().map(String::into_bytes).collect();
     all.extend(spoiled(&mut r));
+    all.extend(many_files(&mut Rng::new(0x16F)).into_iter().map(String::into_bytes));
     all
 }
 
@@ -103,7 +104,7 @@ fn sized(n: usize) -> String {
     text
 }
 
-/// Accepted: document 01's examples, the borders of each number, and plain texts up to the limits.
+/// Accepted: document 01's examples, the borders of each number, and plain texts of up to 8 files.
 fn accepted(r: &mut Rng) -> Vec<String> {
     let mut all = vec![
         HEAD.to_string() + ROW,
@@ -111,6 +112,11 @@ fn accepted(r: &mut Rng) -> Vec<String> {
         head("8", "64"),
         head("1", "0"),
         head("8", "0"),
+        head("9", "1"),
+        head("15", "64"),
+        head("16", "1"),
+        head("16", "64"),
+        head("16", "0"),
         head("2", "2")
             + &training("0", "0", 5.0)
             + &training("0", "1", 10.0)
@@ -145,14 +151,14 @@ fn refused(r: &mut Rng) -> Vec<String> {
     let late = row("1", "0", "1", "00000000", "41200000");
     vec![
         head("0", "1"),
-        head("9", "1"),
-        head("16", "1"),
+        head("17", "1"),
         head("256", "1"),
         head("4294967295", "1"),
         head("1", "65"),
         head("1", "4294967295"),
         head("0", "0") + ROW,
         head("9", "65") + ROW,
+        head("17", "65") + ROW,
         sized(BYTES),
         plain(r, 8, 64, 257),
         plain(r, 1, 1, 300) + &row("9", "9", "1", "00000000", "41200000"),
@@ -166,6 +172,8 @@ fn refused(r: &mut Rng) -> Vec<String> {
         head("2", "0") + &late,
         head("8", "64") + &row("8", "63", "1", "00000000", "41200000"),
         head("8", "64") + &row("7", "64", "1", "00000000", "41200000"),
+        head("16", "64") + &row("16", "63", "1", "00000000", "41200000"),
+        head("16", "64") + &row("15", "64", "1", "00000000", "41200000"),
     ]
 }
 
@@ -282,8 +290,9 @@ fn malformed(r: &mut Rng) -> Vec<String> {
         assert!(good.contains(part), "{part}");
         all.push(good.replacen(part, instead, 1));
     }
-    // 10 before 2, 4 and 5
+    // a byte behind the head; 10 before 2, 4 and 5
     all.push(head("9", "1") + "x");
+    all.push(head("17", "1") + &row("0", "0", "1", "00000000", "4120000a"));
     all.push(head("0", "65") + &ROW[..ROW.len() - 1]);
     all.push(one("1", "1", "1", "00000000", "4120000a"));
     all.push(one("1", "0", "1", "00000000", "41200000") + "file=0\n");
@@ -305,5 +314,16 @@ fn spoiled(r: &mut Rng) -> Vec<Vec<u8>> {
             r.pick(&[0x00, 0x0D, 0x20, 0x2F, 0x3A, 0x40, 0x47, 0x61, 0x66, 0x7F, 0x80, 0xFF]);
         all.push(text);
     }
+    all
+}
+
+/// Accepted: plain texts of 9 to 16 files, and one as large as may be.
+fn many_files(r: &mut Rng) -> Vec<String> {
+    let mut all = vec![];
+    for i in 0..12 {
+        let (peptides, rows) = (r.range(1, 20), r.range(10, 40));
+        all.push(plain(r, 9 + i % 8, peptides, rows));
+    }
+    all.push(plain(r, 16, 64, 256));
     all
 }
