@@ -7,13 +7,18 @@ use oracle::gen::alignment::Rows;
 use oracle::rng::Rng;
 use sage::ml::retention_alignment::Alignment;
 
-/// A batch of any family, aligned, and each way to damage the call.
+/// A batch of any family.
 pub fn case(r: &mut Rng) -> Result<usize, String> {
     let batch = oracle::gen::alignment::any(r);
-    let mut out = Outputs::new(r, &batch);
+    compared(r, &batch)
+}
+
+/// A batch, aligned, and each way to damage the call.
+pub fn compared(r: &mut Rng, batch: &Rows) -> Result<usize, String> {
+    let mut out = Outputs::new(r, batch);
     let columns = columns(&batch.rows);
-    accepted(&batch, &columns, &mut out)?;
-    Ok(1 + damaged(r, &batch, &columns, &mut out)?)
+    accepted(batch, &columns, &mut out)?;
+    Ok(1 + damaged(r, batch, &columns, &mut out)?)
 }
 
 /// The slices that an alignment writes.
@@ -100,7 +105,7 @@ pub fn holds_aligned(
 }
 
 /// Refused with this status, and nothing changed.
-fn refused(
+pub fn refused(
     out: &mut Outputs,
     rows: &zorkamai::Rows,
     files: usize,
@@ -139,12 +144,12 @@ fn damaged(
         }
     }
     // Past the limits.
-    let many = r.pick(&[1_025, 1 << 20, usize::MAX, 1 << 32]);
+    let many = r.pick(&[4_097, 1 << 20, usize::MAX, 1 << 32]);
     refuse(out, rows, 0, peptides, 2)?;
     refuse(out, rows, many, peptides, 2)?;
     let many = r.pick(&[1_048_577, 1 << 32, usize::MAX]);
     refuse(out, rows, files, many, 2)?;
-    refuse(out, rows, 1_024, 16_385, 2)?;
+    refuse(out, rows, 4_096, 4_097, 2)?;
     // A number out of range; a file's before a peptide's.
     if n > 0 {
         let at = r.below(n);
@@ -152,7 +157,7 @@ fn damaged(
         let mut damaged = rows.clone();
         damaged.peptide[at] = peptides as u32 + past;
         refuse(out, &damaged, files, peptides, 5)?;
-        damaged.file[r.below(n)] = files as u32 + past;
+        damaged.file[r.below(n)] = (files as u32).saturating_add(past);
         refuse(out, &damaged, files, peptides, 4)?;
     }
     Ok(calls + too_short(batch, rows, out)?)

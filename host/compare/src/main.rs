@@ -13,6 +13,8 @@ mod adapters;
 mod align;
 mod calls;
 mod cells;
+mod cohort;
+mod files;
 mod forms;
 mod limits;
 mod models;
@@ -28,7 +30,7 @@ use std::time::{Duration, Instant};
 type Family = fn(&mut Rng) -> Result<usize, String>;
 
 /// The families, and how many cases the short run has of each.
-const FAMILIES: [(&str, Family, u64); 7] = [
+const FAMILIES: [(&str, Family, u64); 8] = [
     ("solve", solve::case, 100_000),
     ("align", align::case, 200_000),
     ("models", models::case, 3_000),
@@ -36,6 +38,7 @@ const FAMILIES: [(&str, Family, u64); 7] = [
     ("adapters", adapters::case, 2_000),
     ("records", forms::records, 100_000),
     ("column", forms::column, 50_000),
+    ("files", files::case, 400),
 ];
 
 /// The seed of the short run, and of the long run unless one is given.

@@ -131,7 +131,7 @@ const CUTS: [Cut; 8] = [
 ];
 
 /// The call is refused with this number, and changes nothing.
-fn refused(out: &mut Outputs, input: &Input, files: usize, status: u8) -> Result<(), String> {
+pub fn refused(out: &mut Outputs, input: &Input, files: usize, status: u8) -> Result<(), String> {
     let (retention, mobility) = (only(status), only(status));
     let want = raw::RunReport { status, retention, mobility };
     same("refusal", out.call(input, files), want)?;
@@ -151,7 +151,7 @@ fn damaged(r: &mut Rng, batch: &Batch, input: &Input, out: &mut Outputs) -> Resu
     for damaged in shorter(input, &CUTS) {
         refuse(out, &damaged, files, 1)?;
     }
-    for many in [0, 1_025, usize::MAX] {
+    for many in [0, 4_097, usize::MAX] {
         refuse(out, input, many, 2)?;
     }
     for (damaged, status) in broken(r, input) {
@@ -166,7 +166,7 @@ fn damaged(r: &mut Rng, batch: &Batch, input: &Input, out: &mut Outputs) -> Resu
 }
 
 /// Each slice one short.
-fn too_short(input: &Input, files: usize, out: &mut Outputs) -> Result<usize, String> {
+pub fn too_short(input: &Input, files: usize, out: &mut Outputs) -> Result<usize, String> {
     let mut calls = 0;
     let mut refuse = |out: &mut Outputs| {
         calls += 1;
