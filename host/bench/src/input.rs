@@ -10,9 +10,7 @@ use sage::ml::mobility_model::{self, MobilityModel};
 use sage::ml::retention_alignment::global_alignment;
 use sage::ml::retention_model::{self, RetentionModel};
 use sage::scoring::Feature;
-use zorkamai::{mobility, raw};
-
-const FILES: usize = 16;
+use zorkamai::{limits, mobility, raw};
 
 /// Normal equations of random samples, with one right column.
 pub struct System {
@@ -50,6 +48,7 @@ impl System {
 
 /// A batch, as sage's features and database, and as the library's input; and the room of its calls.
 pub struct Work {
+    files: usize,
     db: IndexedDatabase,
     features: Vec<Feature>,
     input: Input,
@@ -63,18 +62,19 @@ pub struct Work {
 }
 
 impl Work {
-    /// Rows of a tenth as many peptides, in 16 files, aligned on both sides.
-    pub fn new(n: usize) -> Work {
-        let peptides = n / 10;
-        let batch = batch(&mut Rng::new(n as u64), FILES, peptides, n);
+    /// `n` rows of a tenth as many peptides, or of as many as the files leave, aligned on both sides.
+    pub fn new(files: usize, n: usize) -> Work {
+        let peptides = (n / 10).min(limits::CELLS / files);
+        let batch = batch(&mut Rng::new(n as u64), files, peptides, n);
         let mut work = Work {
+            files,
             features: batch.rows.iter().map(|row| row.feature()).collect(),
             input: Input::new(&batch, vec![0.0; n]),
             db: IndexedDatabase { peptides: batch.peptides },
-            workspace: vec![0.0; (FILES * peptides).max(mobility::WORKSPACE)],
-            lines: [vec![0.0; FILES], vec![0.0; FILES], vec![0.0; FILES]],
-            used: vec![0; FILES],
-            exact: [vec![false; FILES], vec![false; FILES], vec![false; FILES]],
+            workspace: vec![0.0; (files * peptides).max(mobility::WORKSPACE)],
+            lines: [vec![0.0; files], vec![0.0; files], vec![0.0; files]],
+            used: vec![0; files],
+            exact: [vec![false; files], vec![false; files], vec![false; files]],
             beta: vec![0.0; mobility::COLUMNS],
             predicted: vec![0.0; n],
             error: vec![0.0; n],
@@ -85,7 +85,7 @@ impl Work {
     }
 
     pub fn rust_align(&mut self) {
-        global_alignment(&mut self.features, FILES);
+        global_alignment(&mut self.features, self.files);
     }
 
     pub fn align(&mut self) {
@@ -95,7 +95,7 @@ impl Work {
             used: &mut self.used,
             exact: self.exact.each_mut().map(Vec::as_mut_slice),
         };
-        let status = align(rows, FILES, table.len(), &mut self.workspace, records, aligned);
+        let status = align(rows, self.files, table.len(), &mut self.workspace, records, aligned);
         assert_eq!(status, 0);
     }
 

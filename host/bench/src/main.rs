@@ -15,6 +15,9 @@ use calls::Model::{Mobility, Retention};
 use input::{System, Work};
 use std::hint::black_box;
 
+/// The files of a batch, where its line names no other number.
+const FILES: usize = 16;
+
 /// A phase, and the call of each side.
 type Phase = (&'static str, fn(&mut Work), fn(&mut Work));
 
@@ -32,6 +35,9 @@ fn main() {
     for order in [69, 100] {
         lines.push(solve(order));
     }
+    eprintln!("4 files, 2300 files");
+    lines.push(align("align, 4 files", 4, 1_000, 4_001));
+    lines.push(align("align, 2300 files", 2_300, 100_000, 21));
     let sizes: &[usize] = if small { &[10_000, 100_000] } else { &[10_000, 100_000, 1_000_000] };
     for &rows in sizes {
         eprintln!("{rows} rows");
@@ -57,8 +63,14 @@ fn solve(order: usize) -> Line {
     Line { phase: "solve, order", size: order, rust, library }
 }
 
+fn align(phase: &'static str, files: usize, rows: usize, runs: usize) -> Line {
+    let mut work = Work::new(files, rows);
+    let (rust, library) = best(runs, &mut work, Work::rust_align, Work::align);
+    Line { phase, size: rows, rust, library }
+}
+
 fn batch(rows: usize) -> Vec<Line> {
-    let mut work = Work::new(rows);
+    let mut work = Work::new(FILES, rows);
     let runs = match rows {
         0..=10_000 => 401,
         10_001..=100_000 => 201,
