@@ -103,15 +103,15 @@ fn print_table(lines: &[Line]) {
             true => String::new(),
             false => format!("{:.3}", l.library / l.size as f64 * 1E6),
         };
-        println!(
-            "| {} | {} | {:.3} | {:.3} | {:.2} | {per_row} |",
-            l.phase,
-            l.size,
-            l.rust * 1E3,
-            l.library * 1E3,
-            l.library / l.rust
-        );
+        let (rust, library, ratio) = (ms(l.rust), ms(l.library), l.library / l.rust);
+        println!("| {} | {} | {rust} | {library} | {ratio:.2} | {per_row} |", l.phase, l.size);
     }
+}
+
+/// Seconds as milliseconds, with two more digits below a tenth of one.
+fn ms(seconds: f64) -> String {
+    let digits = if seconds < 1E-4 { 5 } else { 3 };
+    format!("{:.digits$}", seconds * 1E3)
 }
 
 /// The processor's name, as Linux tells it.
