@@ -15,6 +15,7 @@ use lib.ListN.{
   take-append-drop,
   drop-of-length-le,
   replicate-append-replicate,
+  length-replicate,
 }
 use lib.Seq.{take-length, length-take-le, drop-append-le}
 use Rattle.matrix.specs.Rows.{flat}
@@ -238,6 +239,9 @@ module _ {A : Type 0} where
   take-replicate zero m a h = refl
   take-replicate (suc n) zero a h = absurd (not-suc-le-zero h)
   take-replicate (suc n) (suc m) a h = ap (λ (l : List A). a ∷ l) (take-replicate n m a (le-of-suc-le-suc h))
+
+  pub length-take-replicate : (n m : ℕ) (a : A) → n ≤ m → length (take n (replicate m a)) ≡ n
+  length-take-replicate n m a h = ap length (take-replicate n m a h) ∙ length-replicate n a
 
   pub flat-replicate : (n w : ℕ) (a : A) → flat (replicate n (replicate w a)) ≡ replicate (n * w) a
   unfolding flat

@@ -5,8 +5,8 @@ use Prim.Native.Nat.{ℕ, _*_, _≤_}
 use native.Mathlib.Omega.{arith}
 use borrow.Author.Needs.{needs}
 use denote.Ref.{now}
-use lib.ListN.{length, take, drop, replicate, length-append, length-replicate}
-use lib.Seq.{length-take-le, take-at}
+use lib.ListN.{length, take, drop, replicate, length-append}
+use lib.Seq.{take-at}
 use Rattle.float.specs.Number.{zero64}
 use Rattle.status.specs.Checks.{allBelow}
 use Rattle.status.specs.Limits.{maxFiles}
@@ -15,7 +15,7 @@ use Rattle.rt_matrix.specs.Line.{lines}
 use Rattle.rt_matrix.specs.Cells.{decode}
 use Rattle.rt_matrix.specs.Columns.{FileColumns, EachOf}
 use Rattle.rt_matrix.specs.declared.Alignment.{Alignment}
-use Rattle.matrix.proofs.Lists.{take-replicate, length-tabulate}
+use Rattle.matrix.proofs.Lists.{take-replicate, length-take-replicate, length-tabulate}
 use Rattle.retention_alignment.specs.Observation.{maxRt, maxRts}
 use Rattle.retention_alignment.specs.Alignments.{alignments, aligned}
 use Rattle.retention_alignment.specs.Call.{Input, inputAt, rows}
@@ -29,7 +29,7 @@ abbrev zeros : List ℕ
 zeros = replicate maxFiles 0
 
 part : (n : ℕ) → n ≤ maxFiles → length (take n zeros) ≡ n
-part n h = length-take-le n zeros (omega (arith, length-replicate {A = ℕ} maxFiles 0))
+part n h = length-take-replicate n maxFiles 0 h
 
 -- ---- the places
 

@@ -1,12 +1,14 @@
 -- `rt_matrix::fit_lines` meets its contract: by `fit_many` for many files, and for few the parts of the arrays that it
 -- lends are fresh columns.
+use mathlib.Core.Path.{sym}
 use Prim.Native.Nat.{ℕ, _≤_}
 use native.Mathlib.Omega.{arith}
 use borrow.Author.Needs.{needs}
 use denote.Ref.{now}
 use lib.ListN.{length}
 use Rattle.float.specs.Number.{zero64}
-use Rattle.rt_matrix.proofs.Parts.{part, fresh-parts}
+use Rattle.matrix.proofs.Lists.{length-take-replicate}
+use Rattle.rt_matrix.proofs.Parts.{fresh-parts}
 use Rattle.rt_matrix.proofs.fit_lines.Statement.{statement}
 use Rattle.rt_matrix.proofs.fit_lines.Tie as tie
 
@@ -81,37 +83,37 @@ array-borrow-prefix-len : tie.Need-array-borrow-prefix-len
 array-borrow-prefix-len c = search needs
 
 slice-aggregate-fit-columns : tie.Need-slice-aggregate-fit-columns
-slice-aggregate-fit-columns c = let e = lent1 c in part (files (begin e)) 256 (few e) 0
+slice-aggregate-fit-columns c = let e = lent1 c in sym (length-take-replicate (files (begin e)) 256 0 (few e))
 
 array-borrow-prefix-dot : tie.Need-array-borrow-prefix-dot
 array-borrow-prefix-dot c = search needs
 
 slice-aggregate-fit-columns-2 : tie.Need-slice-aggregate-fit-columns-2
-slice-aggregate-fit-columns-2 c = let e = lent2 c in part (files (begin e)) 256 (few e) zero64
+slice-aggregate-fit-columns-2 c = let e = lent2 c in sym (length-take-replicate (files (begin e)) 256 zero64 (few e))
 
 array-borrow-prefix-sum-x : tie.Need-array-borrow-prefix-sum-x
 array-borrow-prefix-sum-x c = search needs
 
 slice-aggregate-fit-columns-3 : tie.Need-slice-aggregate-fit-columns-3
-slice-aggregate-fit-columns-3 c = let e = lent3 c in part (files (begin e)) 256 (few e) zero64
+slice-aggregate-fit-columns-3 c = let e = lent3 c in sym (length-take-replicate (files (begin e)) 256 zero64 (few e))
 
 array-borrow-prefix-sum-y : tie.Need-array-borrow-prefix-sum-y
 array-borrow-prefix-sum-y c = search needs
 
 slice-aggregate-fit-columns-4 : tie.Need-slice-aggregate-fit-columns-4
-slice-aggregate-fit-columns-4 c = let e = lent4 c in part (files (begin e)) 256 (few e) zero64
+slice-aggregate-fit-columns-4 c = let e = lent4 c in sym (length-take-replicate (files (begin e)) 256 zero64 (few e))
 
 array-borrow-prefix-x-mean : tie.Need-array-borrow-prefix-x-mean
 array-borrow-prefix-x-mean c = search needs
 
 slice-aggregate-fit-columns-5 : tie.Need-slice-aggregate-fit-columns-5
-slice-aggregate-fit-columns-5 c = let e = lent5 c in part (files (begin e)) 256 (few e) zero64
+slice-aggregate-fit-columns-5 c = let e = lent5 c in sym (length-take-replicate (files (begin e)) 256 zero64 (few e))
 
 array-borrow-prefix-sx2 : tie.Need-array-borrow-prefix-sx2
 array-borrow-prefix-sx2 c = search needs
 
 slice-aggregate-fit-columns-6 : tie.Need-slice-aggregate-fit-columns-6
-slice-aggregate-fit-columns-6 c = let e = lent6 c in part (files (begin e)) 256 (few e) _
+slice-aggregate-fit-columns-6 c = let e = lent6 c in sym (length-take-replicate (files (begin e)) 256 _ (few e))
 
 fit-columns-requires : tie.Need-fit-columns-requires
 fit-columns-requires c κs =

@@ -1,4 +1,5 @@
 -- `rt_matrix::fit_many` meets its contract: the parts of the arrays that it lends are fresh columns.
+use mathlib.Core.Path.{sym}
 use Prim.Native.Nat.{ℕ}
 use native.Mathlib.Omega.{arith}
 use borrow.Author.Needs.{needs}
@@ -6,7 +7,8 @@ use denote.Ref.{now}
 use lib.ListN.{length}
 use Rattle.float.specs.Number.{zero64}
 use Rattle.status.specs.Limits.{maxFiles}
-use Rattle.rt_matrix.proofs.Parts.{part, fresh-parts}
+use Rattle.matrix.proofs.Lists.{length-take-replicate}
+use Rattle.rt_matrix.proofs.Parts.{fresh-parts}
 use Rattle.rt_matrix.proofs.fit_many.Statement.{statement}
 use Rattle.rt_matrix.proofs.fit_many.Tie as tie
 
@@ -40,37 +42,37 @@ array-borrow-prefix-len : tie.Need-array-borrow-prefix-len
 array-borrow-prefix-len c = search needs
 
 slice-aggregate-fit-columns : tie.Need-slice-aggregate-fit-columns
-slice-aggregate-fit-columns c = let s = lent1 c in part (files s) maxFiles (s .pre .2) 0
+slice-aggregate-fit-columns c = let s = lent1 c in sym (length-take-replicate (files s) maxFiles 0 (s .pre .2))
 
 array-borrow-prefix-dot : tie.Need-array-borrow-prefix-dot
 array-borrow-prefix-dot c = search needs
 
 slice-aggregate-fit-columns-2 : tie.Need-slice-aggregate-fit-columns-2
-slice-aggregate-fit-columns-2 c = let s = lent2 c in part (files s) maxFiles (s .pre .2) zero64
+slice-aggregate-fit-columns-2 c = let s = lent2 c in sym (length-take-replicate (files s) maxFiles zero64 (s .pre .2))
 
 array-borrow-prefix-sum-x : tie.Need-array-borrow-prefix-sum-x
 array-borrow-prefix-sum-x c = search needs
 
 slice-aggregate-fit-columns-3 : tie.Need-slice-aggregate-fit-columns-3
-slice-aggregate-fit-columns-3 c = let s = lent3 c in part (files s) maxFiles (s .pre .2) zero64
+slice-aggregate-fit-columns-3 c = let s = lent3 c in sym (length-take-replicate (files s) maxFiles zero64 (s .pre .2))
 
 array-borrow-prefix-sum-y : tie.Need-array-borrow-prefix-sum-y
 array-borrow-prefix-sum-y c = search needs
 
 slice-aggregate-fit-columns-4 : tie.Need-slice-aggregate-fit-columns-4
-slice-aggregate-fit-columns-4 c = let s = lent4 c in part (files s) maxFiles (s .pre .2) zero64
+slice-aggregate-fit-columns-4 c = let s = lent4 c in sym (length-take-replicate (files s) maxFiles zero64 (s .pre .2))
 
 array-borrow-prefix-x-mean : tie.Need-array-borrow-prefix-x-mean
 array-borrow-prefix-x-mean c = search needs
 
 slice-aggregate-fit-columns-5 : tie.Need-slice-aggregate-fit-columns-5
-slice-aggregate-fit-columns-5 c = let s = lent5 c in part (files s) maxFiles (s .pre .2) zero64
+slice-aggregate-fit-columns-5 c = let s = lent5 c in sym (length-take-replicate (files s) maxFiles zero64 (s .pre .2))
 
 array-borrow-prefix-sx2 : tie.Need-array-borrow-prefix-sx2
 array-borrow-prefix-sx2 c = search needs
 
 slice-aggregate-fit-columns-6 : tie.Need-slice-aggregate-fit-columns-6
-slice-aggregate-fit-columns-6 c = let s = lent6 c in part (files s) maxFiles (s .pre .2) _
+slice-aggregate-fit-columns-6 c = let s = lent6 c in sym (length-take-replicate (files s) maxFiles _ (s .pre .2))
 
 fit-columns-requires : tie.Need-fit-columns-requires
 fit-columns-requires c κs =
