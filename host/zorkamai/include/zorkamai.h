@@ -22,6 +22,8 @@
  * needed work room ends as +0.0, also with 8 and 9; then no output is written. A NaN that is written or
  * returned is 7FC00000 or 7FF8000000000000.
  *
+ * A call takes at most 256 KiB of its thread's stack.
+ *
  * A float is exact if it equals the double that it was narrowed from. NaN equals nothing. */
 #ifndef ZORKAMAI_H
 #define ZORKAMAI_H

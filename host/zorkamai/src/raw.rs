@@ -3,7 +3,8 @@
 //!
 //! Each is safe: the proved functions take whatever slices and numbers they are handed. A slice that is
 //! written may be longer than needed, and keeps the rest. A refused call (1 to 7) changes no slice; after
-//! any other the needed cells of `workspace` are +0.0.
+//! any other the needed cells of `workspace` are +0.0. A call takes at most 256 KiB of its thread's stack, as
+//! tests/stack measures.
 
 /// A file's record: its longest time, the line that aligns its times, how many peptides carry the line, and whether
 /// the three floats are exact: each was worked out as an f64, and its flag says whether the f32 equals that.
