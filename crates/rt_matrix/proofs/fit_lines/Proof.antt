@@ -3,7 +3,6 @@
 use mathlib.Core.Path.{sym}
 use Prim.Native.Nat.{ℕ, _≤_}
 use native.Mathlib.Omega.{arith}
-use borrow.Author.Needs.{needs}
 use denote.Ref.{now}
 use lib.ListN.{length}
 use Rattle.float.specs.Number.{zero64}
@@ -19,7 +18,9 @@ files s = length (now (s .args .max))
 -- ---- many files
 
 fit-many-requires : tie.Need-fit-many-requires
-fit-many-requires c κs = search needs
+fit-many-requires c κs =
+    c .before .before .before .before .before .before .before .before .before .before .before .before .before .before
+    .before .before .before .pre
 
 -- the work, as its end sees it
 abbrev handed : tie.After-slice-known14 → tie.After-fit-many
@@ -80,37 +81,37 @@ abbrev lent6 : tie.After-sx2 → tie.Else1
 lent6 c = lent5 (c .before)
 
 array-borrow-prefix-len : tie.Need-array-borrow-prefix-len
-array-borrow-prefix-len c = search needs
+array-borrow-prefix-len c = few c
 
 slice-aggregate-fit-columns : tie.Need-slice-aggregate-fit-columns
 slice-aggregate-fit-columns c = let e = lent1 c in sym (length-take-replicate (files (begin e)) 256 0 (few e))
 
 array-borrow-prefix-dot : tie.Need-array-borrow-prefix-dot
-array-borrow-prefix-dot c = search needs
+array-borrow-prefix-dot c = few (lent1 c)
 
 slice-aggregate-fit-columns-2 : tie.Need-slice-aggregate-fit-columns-2
 slice-aggregate-fit-columns-2 c = let e = lent2 c in sym (length-take-replicate (files (begin e)) 256 zero64 (few e))
 
 array-borrow-prefix-sum-x : tie.Need-array-borrow-prefix-sum-x
-array-borrow-prefix-sum-x c = search needs
+array-borrow-prefix-sum-x c = few (lent2 c)
 
 slice-aggregate-fit-columns-3 : tie.Need-slice-aggregate-fit-columns-3
 slice-aggregate-fit-columns-3 c = let e = lent3 c in sym (length-take-replicate (files (begin e)) 256 zero64 (few e))
 
 array-borrow-prefix-sum-y : tie.Need-array-borrow-prefix-sum-y
-array-borrow-prefix-sum-y c = search needs
+array-borrow-prefix-sum-y c = few (lent3 c)
 
 slice-aggregate-fit-columns-4 : tie.Need-slice-aggregate-fit-columns-4
 slice-aggregate-fit-columns-4 c = let e = lent4 c in sym (length-take-replicate (files (begin e)) 256 zero64 (few e))
 
 array-borrow-prefix-x-mean : tie.Need-array-borrow-prefix-x-mean
-array-borrow-prefix-x-mean c = search needs
+array-borrow-prefix-x-mean c = few (lent4 c)
 
 slice-aggregate-fit-columns-5 : tie.Need-slice-aggregate-fit-columns-5
 slice-aggregate-fit-columns-5 c = let e = lent5 c in sym (length-take-replicate (files (begin e)) 256 zero64 (few e))
 
 array-borrow-prefix-sx2 : tie.Need-array-borrow-prefix-sx2
-array-borrow-prefix-sx2 c = search needs
+array-borrow-prefix-sx2 c = few (lent5 c)
 
 slice-aggregate-fit-columns-6 : tie.Need-slice-aggregate-fit-columns-6
 slice-aggregate-fit-columns-6 c = let e = lent6 c in sym (length-take-replicate (files (begin e)) 256 _ (few e))

@@ -2,7 +2,6 @@
 use mathlib.Core.Path.{sym}
 use Prim.Native.Nat.{ℕ}
 use native.Mathlib.Omega.{arith}
-use borrow.Author.Needs.{needs}
 use denote.Ref.{now}
 use lib.ListN.{length}
 use Rattle.float.specs.Number.{zero64}
@@ -39,37 +38,37 @@ abbrev lent6 : tie.After-sx2 → tie.Start
 lent6 c = lent5 (c .before)
 
 array-borrow-prefix-len : tie.Need-array-borrow-prefix-len
-array-borrow-prefix-len c = search needs
+array-borrow-prefix-len c = begin c .pre .2
 
 slice-aggregate-fit-columns : tie.Need-slice-aggregate-fit-columns
 slice-aggregate-fit-columns c = let s = lent1 c in sym (length-take-replicate (files s) maxFiles 0 (s .pre .2))
 
 array-borrow-prefix-dot : tie.Need-array-borrow-prefix-dot
-array-borrow-prefix-dot c = search needs
+array-borrow-prefix-dot c = lent1 c .pre .2
 
 slice-aggregate-fit-columns-2 : tie.Need-slice-aggregate-fit-columns-2
 slice-aggregate-fit-columns-2 c = let s = lent2 c in sym (length-take-replicate (files s) maxFiles zero64 (s .pre .2))
 
 array-borrow-prefix-sum-x : tie.Need-array-borrow-prefix-sum-x
-array-borrow-prefix-sum-x c = search needs
+array-borrow-prefix-sum-x c = lent2 c .pre .2
 
 slice-aggregate-fit-columns-3 : tie.Need-slice-aggregate-fit-columns-3
 slice-aggregate-fit-columns-3 c = let s = lent3 c in sym (length-take-replicate (files s) maxFiles zero64 (s .pre .2))
 
 array-borrow-prefix-sum-y : tie.Need-array-borrow-prefix-sum-y
-array-borrow-prefix-sum-y c = search needs
+array-borrow-prefix-sum-y c = lent3 c .pre .2
 
 slice-aggregate-fit-columns-4 : tie.Need-slice-aggregate-fit-columns-4
 slice-aggregate-fit-columns-4 c = let s = lent4 c in sym (length-take-replicate (files s) maxFiles zero64 (s .pre .2))
 
 array-borrow-prefix-x-mean : tie.Need-array-borrow-prefix-x-mean
-array-borrow-prefix-x-mean c = search needs
+array-borrow-prefix-x-mean c = lent4 c .pre .2
 
 slice-aggregate-fit-columns-5 : tie.Need-slice-aggregate-fit-columns-5
 slice-aggregate-fit-columns-5 c = let s = lent5 c in sym (length-take-replicate (files s) maxFiles zero64 (s .pre .2))
 
 array-borrow-prefix-sx2 : tie.Need-array-borrow-prefix-sx2
-array-borrow-prefix-sx2 c = search needs
+array-borrow-prefix-sx2 c = lent5 c .pre .2
 
 slice-aggregate-fit-columns-6 : tie.Need-slice-aggregate-fit-columns-6
 slice-aggregate-fit-columns-6 c = let s = lent6 c in sym (length-take-replicate (files s) maxFiles _ (s .pre .2))
