@@ -1,5 +1,5 @@
 -- How cells and columns hold what `Line` speaks of: for the contracts of the functions inside. Definitions only.
-use Prim.Native.Nat.{ℕ, _+_}
+use Prim.Native.Nat.{ℕ, _+_, _*_, _^_, _<_, _≤_}
 use mathlib.Core.Path.{_≡_}
 use mathlib.Core.Bool.{cond}
 use mathlib.Core.List.{List, map, zip, zipWith}
@@ -11,8 +11,10 @@ use Rattle.params.specs.Slice.{Held, Change, change, Slice}
 use Rattle.float.specs.Value.{isNormal}
 use Rattle.matrix.specs.Rows.{rowsOf}
 use Rattle.float.specs.Number.{number, zero64}
+use Rattle.status.specs.Limits.{maxFiles}
 use Rattle.matrix.specs.Lists.{zipped}
 use Rattle.rt_matrix.specs.Line.{share, mean, squared, lineOf, lines, sx2Start}
+use Rattle.rt_matrix.specs.Columns.{FileColumns, EachOf, recordsOf}
 use Rattle.rt_matrix.specs.declared.sums.Sums.{Sums}
 use Rattle.rt_matrix.specs.declared.Alignment.{Alignment}
 
@@ -132,3 +134,17 @@ sharesIn max row = sharesOf (now (max .entry)) (now (row .entry))
 
 abbrev pub rowSharesIn : (max : Slice ℕ) (peptides : ℕ) (cells : Slice Float) → List (List (Option Float))
 rowSharesIn max peptides cells = rowShares (now (max .entry)) peptides (now (cells .entry))
+
+-- what the writers of the records ask, in a `requires`: a cell for each peptide in each file, within the limits, and in
+-- each column of the records a cell for each file
+abbrev pub ShapedAt : (cells : Held Float) (max : Held ℕ) (peptides : ℕ) → FileColumns → Type 0
+ShapedAt cells max peptides columns =
+    (length (now cells) ≡ peptides * length (now max))
+    × (peptides < 2 ^ 32)
+    × (length (now max) ≤ maxFiles)
+    × EachOf (length (now max)) columns
+
+-- what they promise, in an `ensures`: the columns are left with the records
+abbrev pub LinesIn : (cells : Slice Float) (max : Slice ℕ) (peptides : ℕ) → Change FileColumns → Type 0
+LinesIn cells max peptides columns =
+    recordsOf (columns .exit) ≡ linesFrom (now (max .entry)) peptides (now (cells .entry))

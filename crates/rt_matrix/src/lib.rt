@@ -3,11 +3,9 @@
 // is given for the peptides' means, so a file's sums are kept in a column of local arrays while the peptides go by,
 // and each pass works out the means anew.
 ghost use mathlib.Core.Path.{_≡_};
-ghost use Prim.Native.Nat.{_*_, _<_, _≤_, _^_};
 ghost use lib.ListN.{length};
-ghost use Rattle.status.specs.Limits.{maxFiles};
 ghost use Rattle.rt_matrix.specs.Line.{finiteOr, lineOf};
-ghost use Rattle.rt_matrix.specs.Cells.{linesFrom, recordsFrom, sumsIn, SizedAt, Fresh};
+ghost use Rattle.rt_matrix.specs.Cells.{recordsFrom, sumsIn, SizedAt, Fresh, ShapedAt, LinesIn};
 ghost use Rattle.rt_matrix.specs.Columns.{EachOf, eachLong, fileColumnsAt, fileColumnsOf, recordsOf};
 
 mod mean;
@@ -168,14 +166,10 @@ fn fit_columns(
         (now «sum_y»)
         (now «x_mean»)
         (now sx2) ⌝ }
-    requires { ⌜ (length (now cells) ≡ peptides * length (now max))
-        × (peptides < 2 ^ 32)
-        × (length (now max) < 2 ^ 32)
-        × EachOf (length (now max)) (fileColumnsAt
-        «max_rt» slope intercept used «max_rt_exact» «slope_exact» «intercept_exact») ⌝ }
-    ensures { λ _. ⌜ recordsOf (fileColumnsOf
-        «max_rt» slope intercept used «max_rt_exact» «slope_exact» «intercept_exact» .exit)
-        ≡ linesFrom (now (max .entry)) peptides (now (cells .entry)) ⌝ }
+    requires { ⌜ ShapedAt cells max peptides
+        (fileColumnsAt «max_rt» slope intercept used «max_rt_exact» «slope_exact» «intercept_exact») ⌝ }
+    ensures { λ _. ⌜ LinesIn cells max peptides
+        (fileColumnsOf «max_rt» slope intercept used «max_rt_exact» «slope_exact» «intercept_exact») ⌝ }
 {
     sums::add_peptides(cells, max, peptides, len, dot, sum_x, sum_y);
     squares::x_means(len, sum_x, x_mean);
@@ -210,14 +204,10 @@ fn fit_many(
     slope_exact: &mut [bool],
     intercept_exact: &mut [bool],
 )
-    requires { ⌜ (length (now cells) ≡ peptides * length (now max))
-        × (peptides < 2 ^ 32)
-        × (length (now max) ≤ maxFiles)
-        × EachOf (length (now max)) (fileColumnsAt
-        «max_rt» slope intercept used «max_rt_exact» «slope_exact» «intercept_exact») ⌝ }
-    ensures { λ _. ⌜ recordsOf (fileColumnsOf
-        «max_rt» slope intercept used «max_rt_exact» «slope_exact» «intercept_exact» .exit)
-        ≡ linesFrom (now (max .entry)) peptides (now (cells .entry)) ⌝ }
+    requires { ⌜ ShapedAt cells max peptides
+        (fileColumnsAt «max_rt» slope intercept used «max_rt_exact» «slope_exact» «intercept_exact») ⌝ }
+    ensures { λ _. ⌜ LinesIn cells max peptides
+        (fileColumnsOf «max_rt» slope intercept used «max_rt_exact» «slope_exact» «intercept_exact») ⌝ }
 {
     let files = max.len();
     let mut len = [0u32; MAX_FILES];
@@ -260,14 +250,10 @@ pub fn fit_lines(
     slope_exact: &mut [bool],
     intercept_exact: &mut [bool],
 )
-    requires { ⌜ (length (now cells) ≡ peptides * length (now max))
-        × (peptides < 2 ^ 32)
-        × (length (now max) ≤ maxFiles)
-        × EachOf (length (now max)) (fileColumnsAt
-        «max_rt» slope intercept used «max_rt_exact» «slope_exact» «intercept_exact») ⌝ }
-    ensures { λ _. ⌜ recordsOf (fileColumnsOf
-        «max_rt» slope intercept used «max_rt_exact» «slope_exact» «intercept_exact» .exit)
-        ≡ linesFrom (now (max .entry)) peptides (now (cells .entry)) ⌝ }
+    requires { ⌜ ShapedAt cells max peptides
+        (fileColumnsAt «max_rt» slope intercept used «max_rt_exact» «slope_exact» «intercept_exact») ⌝ }
+    ensures { λ _. ⌜ LinesIn cells max peptides
+        (fileColumnsOf «max_rt» slope intercept used «max_rt_exact» «slope_exact» «intercept_exact») ⌝ }
 {
     let files = max.len();
     if FEW_FILES < files {

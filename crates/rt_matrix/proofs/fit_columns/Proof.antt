@@ -59,7 +59,7 @@ add-peptides-requires c κs =
     let s = start c in
     let a = s .args in
     let g = s .pre .1 in
-    (g .0, sized s, λ k. omega (arith, g .1, fresh-count (length (now (a .max))) (now (a .len)) (now (a .dot)) (now (a .sum-x)) (now (a .sum-y)) (now (a .x-mean)) (now (a .sx2)) (s .pre .0) k), g .2)
+    (g .0, sized s, λ k. omega (arith, g .1, fresh-count (length (now (a .max))) (now (a .len)) (now (a .dot)) (now (a .sum-x)) (now (a .sum-y)) (now (a .x-mean)) (now (a .sx2)) (s .pre .0) k), omega (arith, g .2))
 
 x-means-requires : tie.Need-x-means-requires
 x-means-requires c κs =
@@ -73,7 +73,7 @@ add-peptides-requires-2 c κs =
     let s = start (first (m .before) .before) in
     let a = s .args in
     let g = s .pre .1 in
-    (g .0, m .x-means .kept .1 .1 .0 ∙ s .pre .0 .means, fresh-squares (length (now (a .max))) (now (a .len)) (now (a .dot)) (now (a .sum-x)) (now (a .sum-y)) (now (a .x-mean)) (now (a .sx2)) (s .pre .0), g .2)
+    (g .0, m .x-means .kept .1 .1 .0 ∙ s .pre .0 .means, fresh-squares (length (now (a .max))) (now (a .len)) (now (a .dot)) (now (a .sum-x)) (now (a .sum-y)) (now (a .x-mean)) (now (a .sx2)) (s .pre .0), omega (arith, g .2))
 
 store-alignments-requires : tie.Need-store-alignments-requires
 store-alignments-requires c κs =

@@ -2,7 +2,6 @@
 -- lends are fresh columns.
 use mathlib.Core.Path.{sym}
 use Prim.Native.Nat.{ℕ, _≤_}
-use native.Mathlib.Omega.{arith}
 use denote.Ref.{now}
 use lib.ListN.{length}
 use Rattle.float.specs.Number.{zero64}
@@ -119,8 +118,7 @@ slice-aggregate-fit-columns-6 c = let e = lent6 c in sym (length-take-replicate 
 fit-columns-requires : tie.Need-fit-columns-requires
 fit-columns-requires c κs =
     let e = lent6 (c .before .before .before .before .before .before .before) in
-    let g = begin e .pre in
-    (fresh-parts (files (begin e)) 256 (few e), (g .0, g .1, omega arith, g .3))
+    (fresh-parts (files (begin e)) 256 (few e), begin e .pre)
 
 -- the work, as the end sees it
 abbrev worked : tie.After-slice-known21 → tie.After-fit-columns

@@ -1,7 +1,6 @@
 -- `rt_matrix::fit_many` meets its contract: the parts of the arrays that it lends are fresh columns.
 use mathlib.Core.Path.{sym}
 use Prim.Native.Nat.{ℕ}
-use native.Mathlib.Omega.{arith}
 use denote.Ref.{now}
 use lib.ListN.{length}
 use Rattle.float.specs.Number.{zero64}
@@ -76,8 +75,7 @@ slice-aggregate-fit-columns-6 c = let s = lent6 c in sym (length-take-replicate 
 fit-columns-requires : tie.Need-fit-columns-requires
 fit-columns-requires c κs =
     let s = lent6 (c .before .before .before .before .before .before .before) in
-    let g = s .pre in
-    (fresh-parts (files s) maxFiles (g .2), (g .0, g .1, omega arith, g .3))
+    (fresh-parts (files s) maxFiles (s .pre .2), s .pre)
 
 -- the work, as the end sees it
 abbrev worked : tie.After-slice-known14 → tie.After-fit-columns
