@@ -4,5 +4,6 @@ pub mod Exact
 pub mod Laws
 pub mod Nan
 pub mod Order
+pub mod Products
 pub mod Round
 pub mod Whole
