@@ -2,7 +2,7 @@
 -- zipped, two with the same elements, and one element again and again.
 use mathlib.Core.Path.{_≡_, refl, sym, ap, ap₂, _∙_}
 use mathlib.Core.List.{List, [], _∷_, _++_, map, zip, zipWith, append-assoc, append-nil}
-use Prim.Native.Nat.{ℕ, zero, suc, _*_, _≤_, _<_, zero-le, suc-le-suc}
+use Prim.Native.Nat.{ℕ, zero, suc, _+_, _-_, _*_, _≤_, _<_, zero-le, suc-le-suc}
 use native.Mathlib.Nat.{le-of-suc-le-suc, not-suc-le-zero, zero-mul, suc-mul, add-comm}
 use native.Mathlib.Omega.{arith}
 use lib.ListN.{
@@ -39,6 +39,18 @@ module _ {A B : Type 0} (g : A → B → A) where
   getD-zipped (d ∷ dst) (s ∷ src) zero a b h l = refl
   getD-zipped (d ∷ dst) (s ∷ src) (suc k) a b h l =
       getD-zipped dst src k a b (le-of-suc-le-suc h) (le-of-suc-le-suc l)
+
+  pub drop-zipped : (j : ℕ) (dst : List A) (src : List B)
+      → drop j (zipped g dst src) ≡ zipped g (drop j dst) (drop j src)
+  unfolding zipped
+  drop-zipped zero dst src = refl
+  drop-zipped (suc j) [] src = refl
+  drop-zipped (suc j) (d ∷ dst) [] = alone (drop j dst)
+    where
+      alone : (l : List A) → l ≡ zipped g l []
+      alone [] = refl
+      alone (a ∷ l) = refl
+  drop-zipped (suc j) (d ∷ dst) (s ∷ src) = drop-zipped j dst src
 
   -- the lists' last cells are done by themselves
   pub zipped-snoc : (xs : List A) (x : A) (ys : List B) (y : B) → length xs ≡ length ys
@@ -82,6 +94,33 @@ module _ {A : Type 0} where
   tabulate-same (suc n) f g h =
       cc
       (h 0 (suc-le-suc zero-le), tabulate-same n (λ i. f (suc i)) (λ i. g (suc i)) (λ i l. h (suc i) (suc-le-suc l)))
+
+  -- one cell more
+  pub tabulate-snoc : (n : ℕ) (f : ℕ → A) → tabulate (suc n) f ≡ tabulate n f ++ f n ∷ []
+  unfolding tabulate
+  tabulate-snoc zero f = refl
+  tabulate-snoc (suc n) f = ap (λ (r : List A). f 0 ∷ r) (tabulate-snoc n (λ i. f (suc i)))
+
+  -- the cells from j on
+  pub drop-tabulate : (j n : ℕ) (f : ℕ → A) → drop j (tabulate n f) ≡ tabulate (n - j) (λ k. f (j + k))
+  unfolding tabulate
+  drop-tabulate zero n f =
+      ap (λ (k : ℕ). tabulate k f) {x = n} {y = n - 0} (omega arith)
+      ∙ tabulate-same (n - 0) f (λ k. f (0 + k)) (λ k l. ap f {x = k} {y = 0 + k} (omega arith))
+  drop-tabulate (suc j) zero f =
+      ap (λ (k : ℕ). tabulate k (λ i. f (suc j + i))) {x = 0} {y = 0 - suc j} (omega arith)
+  drop-tabulate (suc j) (suc n) f =
+      drop-tabulate j n (λ i. f (suc i))
+      ∙ ap (λ (k : ℕ). tabulate k (λ i. f (suc (j + i)))) {x = n - j} {y = suc n - suc j} (omega arith)
+      ∙ tabulate-same (suc n - suc j) _ _ (λ k l. ap f {x = suc (j + k)} {y = suc j + k} (omega arith))
+
+  -- a list is the table of its cells
+  pub tabulate-cells : (n : ℕ) (xs : List A) (d : A) → length xs ≡ n → tabulate n (λ i. getD xs i d) ≡ xs
+  unfolding tabulate
+  tabulate-cells zero [] d e = refl
+  tabulate-cells zero (x ∷ xs) d e = absurd (omega arith)
+  tabulate-cells (suc n) [] d e = absurd (omega arith)
+  tabulate-cells (suc n) (x ∷ xs) d e = ap (λ (t : List A). x ∷ t) (tabulate-cells n xs d (omega arith))
 
   pub tabulate-constant : (n : ℕ) (a : A) → tabulate n (λ i. a) ≡ replicate n a
   unfolding tabulate
