@@ -2,7 +2,8 @@
 use mathlib.Core.Path.{_≡_, refl, sym, ap, _∙_}
 use mathlib.Core.List.{List, [], _∷_, _++_}
 use Prim.Native.Nat.{ℕ, zero, suc, _+_, _-_, _*_, _≤_, _<_}
-use native.Mathlib.Nat.{add-sub-cancel-left, le-refl, le-of-eq, le-of-suc-le-suc, not-suc-le-zero, mul-le-mul-right}
+use native.Mathlib.Nat.{add-sub-cancel-left, le-refl, le-of-eq, le-of-suc-le-suc, not-suc-le-zero}
+use native.Mathlib.Nat.{mul-le-mul-right, suc-mul}
 use native.Mathlib.Numerals.{add-one}
 use native.Mathlib.Omega.{arith}
 use lib.ListN.{length, take, drop, set}
@@ -10,6 +11,7 @@ use lib.Seq.{length-take-le}
 use Rattle.matrix.specs.Rows.{rowsOf}
 use borrow.Rule.Slice.PartMut.{same-len-mid}
 use Rattle.matrix.proofs.Laws.{
+  put,
   row-end,
   row-rowsOf,
   rowsOf-put-row,
@@ -26,49 +28,92 @@ use Rattle.elimination.proofs.Parts.{part-length}
 pub next-start : (a i w : ℕ) → a ≡ i * w → a + w ≡ (i + 1) * w
 next-start a i w e = omega arith
 
--- The first i rows are made anew; row i is lent as the part from a on, k cells long, and comes back as r.
+-- ---- a loop that makes the rows anew, in their order
+
+-- m rows, one after the other in a flat list: row i begins at `start i` and has `wide i` cells.
+pub record Layout {A : Type 0} (m : ℕ) (rows : List A → List (List A)) (start wide : ℕ → ℕ) : Type 0 where
+  pub row-next : (i : ℕ) → start (suc i) ≡ start i + wide i
+  pub row-ends : (i : ℕ) → i < m → start i + wide i ≤ start m
+  pub row-is : (i : ℕ) (xs : List A) → i < m → rowOf (rows xs) i ≡ take (wide i) (drop (start i) xs)
+  pub row-put : (i : ℕ) (r xs : List A) → i < m → start m ≤ length xs → length r ≡ wide i
+      → rows (put (start i) (wide i) r xs) ≡ set (rows xs) i r
+
+-- The first i rows are made anew by g, row i begins at `at`, and the length is as it was.
+abbrev pub MadeIn : {A : Type 0} → (m : ℕ) (rows : List A → List (List A)) (start : ℕ → ℕ)
+    → (ℕ → List A → List A) → (xs₀ xs : List A) → (at i : ℕ) → Type 0
+MadeIn m rows start g xs₀ xs at i =
+    (i ≤ m) × (at ≡ start i) × (rows xs ≡ made g i (rows xs₀)) × (length xs ≡ length xs₀)
+
+-- A turn of the loop, at row i: the part from `at` on, v cells long, is lent. It lies within the list and is a row;
+-- made anew, it leaves one row more made anew.
+pub record TurnIn {A : Type 0} (m : ℕ) (rows : List A → List (List A)) (start : ℕ → ℕ) (g : ℕ → List A → List A)
+    (xs₀ xs : List A) (at v i : ℕ) : Type 0 where
+  pub fits : at + v ≤ length xs
+  pub part : length (take (at + v - at) (drop at xs)) ≡ v
+  pub next : (r : List A) → length r ≡ length (take (at + v - at) (drop at xs))
+      → r ≡ g i (take (at + v - at) (drop at xs))
+      → MadeIn m rows start g xs₀ (take at xs ++ (r ++ drop (at + v - at) (drop at xs))) (at + v) (i + 1)
+
+module _ {A : Type 0} (m : ℕ) (rows : List A → List (List A)) (start wide : ℕ → ℕ)
+    (layout : Layout m rows start wide) (g : ℕ → List A → List A) where
+  -- Row i is lent as the part from a on, k cells long, and comes back as r.
+  turn-row : (old : List (List A)) (i a k : ℕ) (xs r : List A)
+      → rows xs ≡ made g i old → i < m
+      → length xs ≡ start m → a ≡ start i → k ≡ wide i → length r ≡ wide i → r ≡ g i (take k (drop a xs))
+      → rows (take a xs ++ (r ++ drop k (drop a xs))) ≡ made g (suc i) old
+  turn-row old i a k xs r inv h l ea ek er e =
+      let part : take k (drop a xs) ≡ rowOf (rows xs) i = rw (ea, ek) (sym (layout .row-is i xs h)) in
+      let is : r ≡ g i (rowOf (rows xs) i) = e ∙ ap (g i) part in
+      rw (ea, ek)
+      (layout .row-put i r xs h (le-of-eq (sym l)) er ∙ ap (set (rows xs) i) is ∙ rw inv (made-suc g i old []))
+
+  pub turn-in : (xs₀ xs : List A) (at v i : ℕ) → MadeIn m rows start g xs₀ xs at i → i < m
+      → length xs₀ ≡ start m → v ≡ wide i → TurnIn m rows start g xs₀ xs at v i
+  turn-in xs₀ xs at v i inv h whole ev =
+      let f : at + v ≤ length xs = omega (arith, layout .row-ends i h, inv .1, inv .3) in
+      let k : at + v - at ≡ v = add-sub-cancel-left at v in
+      let p : length (take (at + v - at) (drop at xs)) ≡ v = part-length at (at + v - at) xs (omega arith) ∙ k in
+      record {
+        fits = f;
+        part = p;
+        next = λ r kept e. (
+          omega arith,
+          rw (add-one i, layout .row-next i, ← inv .1, ev),
+          rw add-one
+              (turn-row (rows xs₀) i at (at + v - at) xs r (inv .2) h (inv .3 ∙ whole) (inv .1)
+              (k ∙ ev) (kept ∙ p ∙ ev) e),
+          same-len-mid at (at + v - at) xs r kept ∙ inv .3,
+        );
+      }
+
+-- ---- rows of one width
+
+flat-layout : {A : Type 0} (w m : ℕ) → Layout {A = A} m (rowsOf w m) (λ i. i * w) (λ i. w)
+flat-layout w m =
+    record {
+      row-next = λ i. suc-mul i w;
+      row-ends = λ i h. row-end w m i h;
+      row-is = λ i xs h. row-rowsOf w m i xs h;
+      row-put = λ i r xs h l e. rowsOf-put-row w m i r xs h l e;
+    }
+
 pub row-turn : {A : Type 0} (g : ℕ → List A → List A) (rows : List (List A)) (i m w a k : ℕ) (xs r : List A)
     → rowsOf w m xs ≡ made g i rows → i < m
     → length xs ≡ m * w → a ≡ i * w → k ≡ w → length r ≡ w → r ≡ g i (take k (drop a xs))
     → rowsOf w m (take a xs ++ (r ++ drop k (drop a xs))) ≡ made g (suc i) rows
-row-turn g rows i m w a k xs r inv h l ea ek er e =
-    let part : take k (drop a xs) ≡ rowOf (rowsOf w m xs) i = rw (ea, ek) (sym (row-rowsOf w m i xs h)) in
-    let is : r ≡ g i (rowOf (rowsOf w m xs) i) = e ∙ ap (g i) part in
-    rw (ea, ek)
-    (rowsOf-put-row w m i r xs h (omega arith) er ∙ ap (set (rowsOf w m xs) i) is ∙ rw inv (made-suc g i rows []))
+row-turn g rows i m w = turn-row m (rowsOf w m) (λ n. n * w) (λ n. w) (flat-layout w m) g rows i
 
--- The first i of m rows of w cells are made anew by g, row i begins at `at`, and the length is as it was.
 abbrev pub RowsMade : {A : Type 0} → (w m : ℕ) → (ℕ → List A → List A) → (xs₀ xs : List A)
     → (at i : ℕ) → Type 0
-RowsMade w m g xs₀ xs at i =
-    (i ≤ m) × (at ≡ i * w) × (rowsOf w m xs ≡ made g i (rowsOf w m xs₀)) × (length xs ≡ length xs₀)
+RowsMade w m g xs₀ xs at i = MadeIn m (rowsOf w m) (λ n. n * w) g xs₀ xs at i
 
--- A turn of the loop, at row i: the part from `at` on is lent. It lies within the list and is a row; made anew, it
--- leaves one row more made anew.
-pub record Turn {A : Type 0} (w m : ℕ) (g : ℕ → List A → List A) (xs₀ xs : List A) (at i : ℕ) : Type 0 where
-  pub fits : at + w ≤ length xs
-  pub part : length (take (at + w - at) (drop at xs)) ≡ w
-  pub next : (r : List A) → length r ≡ length (take (at + w - at) (drop at xs))
-      → r ≡ g i (take (at + w - at) (drop at xs))
-      → RowsMade w m g xs₀ (take at xs ++ (r ++ drop (at + w - at) (drop at xs))) (at + w) (i + 1)
+abbrev pub Turn : {A : Type 0} → (w m : ℕ) → (ℕ → List A → List A) → (xs₀ xs : List A) → (at i : ℕ) → Type 0
+Turn w m g xs₀ xs at i = TurnIn m (rowsOf w m) (λ n. n * w) g xs₀ xs at w i
 
 pub turn : {A : Type 0} (w m : ℕ) (g : ℕ → List A → List A) (xs₀ xs : List A) (at i : ℕ)
     → RowsMade w m g xs₀ xs at i → i < m → length xs₀ ≡ m * w → Turn w m g xs₀ xs at i
 turn w m g xs₀ xs at i inv h whole =
-    let f : at + w ≤ length xs = omega (arith, row-end w m i h, inv .1, inv .3) in
-    let p : length (take (at + w - at) (drop at xs)) ≡ w =
-    part-length at (at + w - at) xs (omega arith) ∙ add-sub-cancel-left at w in
-    record {
-      fits = f;
-      part = p;
-      next = λ r kept e. (
-        omega arith,
-        next-start at i w (inv .1),
-        rw add-one
-            (row-turn g (rowsOf w m xs₀) i m w at (at + w - at) xs r (inv .2) h (inv .3 ∙ whole) (inv .1) (add-sub-cancel-left at w) (kept ∙ p) e),
-        same-len-mid at (at + w - at) xs r kept ∙ inv .3,
-      );
-    }
+    turn-in m (rowsOf w m) (λ n. n * w) (λ n. w) (flat-layout w m) g xs₀ xs at w i inv h whole refl
 
 module _ {A : Type 0} (w n i : ℕ) (cells part : List A) (h : i ≤ n) where
   -- the rows from row i on replaced
