@@ -1,7 +1,7 @@
 -- What is supposed can be met. Every accepted call of `run` is an end, and so are three accepted calls. A host finds a
 -- peptide and then adds a decoy with another, whose number is smaller: the table has one more, the training row's
 -- peptide gets another number, and by computation all that the rule supposes holds. The first end is one call, the
--- second three, with workspaces of 2, 9,660 and 20,201 cells.
+-- second three, with workspaces of 2, 7,314 and 15,251 cells.
 use mathlib.Core.Path.{_≡_, refl, sym, ap, _∙_}
 use mathlib.Core.Bool.{true, cond}
 use mathlib.Core.List.{List, [], _∷_, map, headD}
@@ -200,7 +200,7 @@ records =
 abbrev slices : Slices
 slices =
     record {
-      workspace = replicate 20200 zero64;
+      workspace = replicate 15250 zero64;
       records = records;
       aligned = hundred;
       retention = outputs;
@@ -226,12 +226,12 @@ unfolding alignStatusBy every
 accepts-align = refl
 
 accepts-retention : predictStatus Retention (retentionInput with-decoy (written with-decoy alignSlices))
-    (modelSlices 9660)
+    (modelSlices 7314)
     ≡ accepted
 unfolding modelStatusBy columnsAgree every offsetsRight climbs alignAfter alignStatusBy alignFilled observations
 accepts-retention = refl
 
-accepts-mobility : predictStatus Mobility (mobilityInput with-decoy) (modelSlices 20201) ≡ accepted
+accepts-mobility : predictStatus Mobility (mobilityInput with-decoy) (modelSlices 15251) ≡ accepted
 unfolding modelStatusBy columnsAgree every offsetsRight climbs
 accepts-mobility = refl
 
@@ -243,7 +243,7 @@ run-gone = runFor decoy-gone slices accepts-gone
 
 pub calls-with : CallsEnd
 calls-with =
-    callsFor with-decoy alignSlices (modelSlices 9660) (modelSlices 20201)
+    callsFor with-decoy alignSlices (modelSlices 7314) (modelSlices 15251)
     accepts-align accepts-retention accepts-mobility
 
 -- ---- the host adds the decoy

@@ -51,15 +51,6 @@ module _ {A : Type 0} where
   made-all g (suc j) (x ∷ xs) h =
       ap {B = List A} (λ r. g zero x ∷ r) (made-all (λ i. g (suc i)) j xs (le-of-suc-le-suc h))
 
-  -- twice, one way after the other
-  pub made-twice : (g h : ℕ → A → A) (j : ℕ) (xs : List A)
-      → made (λ i x. h i (g i x)) j xs ≡ made h j (made g j xs)
-  unfolding made
-  made-twice g h zero xs = refl
-  made-twice g h (suc j) [] = refl
-  made-twice g h (suc j) (x ∷ xs) =
-      ap {B = List A} (λ r. h zero (g zero x) ∷ r) (made-twice (λ i. g (suc i)) (λ i. h (suc i)) j xs)
-
   -- each element by one function
   pub made-map : (f : A → A) (j : ℕ) (xs : List A) → length xs ≤ j → made (λ i. f) j xs ≡ map f xs
   unfolding made

@@ -29,6 +29,7 @@ use Rattle.elimination.specs.Elimination.{
 use Rattle.elimination.specs.Ridge.{ridgesFrom, firstSolved}
 use Rattle.gauss.specs.Solve.{solutionOf}
 use Rattle.regression.specs.Regression.{normal, fitOf, dot}
+use Rattle.regression.specs.Triangle.{triangle, unfolded}
 use Rattle.embedding.specs.Count.{range, howMany}
 use Rattle.embedding.specs.Design.{design}
 use Rattle.rt_matrix.specs.Line.{share, present, mean, keptRows, pointOf, points, finiteOr, lineOf, line, lines}
@@ -39,5 +40,5 @@ use Rattle.align_text.specs.AlignText.{alignTextWith}
 use Rattle.examples.specs.Examples.{sameList, holds, examples}
 
 pub all-hold : every holds examples ≡ true
-unfolding every sameList examples zipWith headD sub mul div eq lt le ofInt ofBits toBits narrowed ceiling isFinite isNormal isNan minimum clamped columnOf placeFrom validAa rowsOf flat trains mask kept indexed augmented zipped largest cleared clearBelow columnEliminated echelonFrom leadingZeros divided lessMultiple clearAbove backfillFrom rowSolved solvedFrom eliminate ridgesFrom firstSolved solutionOf normal fitOf dot range howMany design tabulate share present mean keptRows pointOf points finiteOr lineOf line lines observations maxRt maxRts times smaller minRt minRts alignments onLine aligned statusBy filled slicesAfter alignTextWith
+unfolding every sameList examples zipWith headD sub mul div eq lt le ofInt ofBits toBits narrowed ceiling isFinite isNormal isNan minimum clamped columnOf placeFrom validAa rowsOf flat trains mask kept indexed augmented zipped largest cleared clearBelow columnEliminated echelonFrom leadingZeros divided lessMultiple clearAbove backfillFrom rowSolved solvedFrom eliminate ridgesFrom firstSolved solutionOf normal triangle unfolded fitOf dot range howMany design tabulate share present mean keptRows pointOf points finiteOr lineOf line lines observations maxRt maxRts times smaller minRt minRts alignments onLine aligned statusBy filled slicesAfter alignTextWith
 all-hold = refl

@@ -1,5 +1,5 @@
--- Document 01's P examples in its order, each with the flags of what it narrows, and its table's numbers for three
--- small fits: numbers that the definitions give, beside the numbers that the documents say. Definitions only.
+-- Document 01's P examples in its order, each with the flags of what it narrows, its table's numbers for three small
+-- fits, and request 4's numbers: what the definitions give, beside what the documents say. Definitions only.
 use Prim.Native.Nat.{ℕ, _+_}
 use Prim.Native.String.{String}
 use mathlib.Core.Bool.{Bool, true, false, _&&_, cond}
@@ -16,11 +16,14 @@ use Rattle.float.specs.Convert.{isExact}
 use Rattle.float.specs.Number.{number, sumFrom}
 use Rattle.peptide.specs.Table.{Table}
 use Rattle.embedding.specs.Count.{range}
-use Rattle.embedding.specs.Design.{design, cTerminalAt}
+use Rattle.embedding.specs.Design.{orderOf, design, cTerminalAt}
 use Rattle.elimination.specs.Ridge.{Solution, solved, unsolved}
 use Rattle.status.specs.Told.{toldFor}
 use Rattle.gauss.specs.Solve.{solutionOf, solutionTold, statusBy, needed, outputs}
+use Rattle.matrix.specs.Rows.{flat}
 use Rattle.regression.specs.Regression.{Sample, Values, fitOf, toldBy}
+use Rattle.regression.specs.Triangle.{triangle, unfolded}
+use Rattle.regression.specs.Workspace.{workspaceCells}
 use Rattle.rt_matrix.specs.Columns.{columnsOf}
 use Rattle.retention_alignment.specs.Observation.{maxRts}
 use Rattle.retention_alignment.specs.Call.{Input, Slices, rows, recordsFor, status, slicesAfter}
@@ -189,6 +192,18 @@ minusOne = 0xBFF0_0000_0000_0000
 abbrev pub five : ℕ
 five = 0x4014_0000_0000_0000
 
+abbrev pub two : ℕ
+two = 0x4000_0000_0000_0000
+
+abbrev pub three : ℕ
+three = 0x4008_0000_0000_0000
+
+abbrev pub ten : ℕ
+ten = 0x4024_0000_0000_0000
+
+abbrev pub eighteen : ℕ
+eighteen = 0x4032_0000_0000_0000
+
 abbrev pub aNaN : ℕ
 aNaN = 0x7FF8_0000_0000_0000
 
@@ -207,6 +222,13 @@ abbrev pub fit : List ℕ → List ℕ
 fit cells =
     let outcome = fitOf 1 (map sample cells) .outcome in
     fitNumbers (toldBy outcome .status) (toldBy outcome .values)
+
+-- the design rows (1, 2) and (3, -1), with the targets 3 and 5: cov has 10, -1 and -1, 5, and the right side 18 and 1
+abbrev pub sampleOf : List ℕ → ℕ → Sample
+sampleOf row y = record { row = floats binary64 row; y = ofBits binary64 y }
+
+abbrev pub twoSamples : List Sample
+twoSamples = sampleOf (one ∷ two ∷ []) three ∷ sampleOf (three ∷ minusOne ∷ []) five ∷ []
 
 -- ---- the list
 
@@ -339,4 +361,17 @@ examples =
     ∷ record { given = fit (one ∷ one ∷ []); said = 0 ∷ tiny ∷ 2 ∷ [] }
     ∷ record { given = fit []; said = 8 ∷ [] }
     ∷ record { given = fit (aNaN ∷ []); said = 9 ∷ [] }
+    -- request 4: the room of the two fits, and of two samples what is stored and what it unfolds to
+    ∷ record {
+      given = workspaceCells (orderOf Retention) ∷ workspaceCells (orderOf Mobility) ∷ [];
+      said = 7314 ∷ 15250 ∷ [];
+    }
+    ∷ record {
+      given = bits binary64 (flat (triangle 2 twoSamples));
+      said = ten ∷ minusOne ∷ eighteen ∷ five ∷ one ∷ [];
+    }
+    ∷ record {
+      given = bits binary64 (flat (unfolded 2 (triangle 2 twoSamples)));
+      said = ten ∷ minusOne ∷ eighteen ∷ minusOne ∷ five ∷ one ∷ [];
+    }
     ∷ []

@@ -179,7 +179,7 @@ fn fit(
     predictions: usize,
     errors: usize,
 )
-    requires { ⌜ (cells ≤ 20300) × (betas ≤ 101) × (predictions ≤ 4) × (errors ≤ 4) ⌝ }
+    requires { ⌜ (cells ≤ 15350) × (betas ≤ 101) × (predictions ≤ 4) × (errors ≤ 4) ⌝ }
 {
     let labels = [label];
     let mut workspace = [CELL; WORKSPACE];
@@ -215,7 +215,7 @@ fn within(
     predictions: usize,
     errors: usize,
 )
-    requires { ⌜ (cells ≤ 20300) × (betas ≤ 101) × (predictions ≤ 4) × (errors ≤ 4) ⌝ }
+    requires { ⌜ (cells ≤ 15350) × (betas ≤ 101) × (predictions ≤ 4) × (errors ≤ 4) ⌝ }
 {
     let zero = [0u32];
     let offsets = [0u32, end];
@@ -253,7 +253,7 @@ fn one(model: Model, predicts: bool, peptide: u32, label: i32, letter: u8, mass:
         &offsets,
         &masses,
         &logs,
-        20300,
+        15350,
         101,
         4,
         4,
@@ -274,7 +274,7 @@ fn two(model: Model, predicts: bool, letters: &[u8], b: u32, c: u32, logs: &[f64
         &offsets,
         &masses,
         logs,
-        20300,
+        15350,
         101,
         4,
         4,
@@ -310,7 +310,7 @@ fn lengths(model: Model, predicts: bool) {
         &offsets,
         &masses,
         &logs,
-        20300,
+        15350,
         101,
         4,
         4,
@@ -324,7 +324,7 @@ fn lengths(model: Model, predicts: bool) {
         &offsets,
         &masses,
         &logs,
-        20300,
+        15350,
         101,
         4,
         4,
@@ -336,13 +336,13 @@ fn lengths(model: Model, predicts: bool) {
 // the coefficients; no room for the prediction, and for the error, which is 0 for `fit`; a workspace too short with
 // offsets past the letters, which is 7 too.
 fn room(model: Model, predicts: bool) {
-    within(model, predicts, 1, 9659, 101, 4, 4);
-    within(model, predicts, 1, 20199, 101, 4, 4);
-    within(model, predicts, 1, 20300, 68, 4, 4);
-    within(model, predicts, 1, 20300, 99, 4, 4);
-    within(model, predicts, 1, 20300, 101, 0, 4);
-    within(model, predicts, 1, 20300, 101, 4, 0);
-    within(model, predicts, 2, 9659, 101, 4, 4);
+    within(model, predicts, 1, 7313, 101, 4, 4);
+    within(model, predicts, 1, 15249, 101, 4, 4);
+    within(model, predicts, 1, 15350, 68, 4, 4);
+    within(model, predicts, 1, 15350, 99, 4, 4);
+    within(model, predicts, 1, 15350, 101, 0, 4);
+    within(model, predicts, 1, 15350, 101, 4, 0);
+    within(model, predicts, 2, 7313, 101, 4, 4);
 }
 
 // 7: the offsets 0, 2, 1; with a lower-case letter, which is 6 too; a peptide of 256 letters.

@@ -13,7 +13,7 @@ pub const COUNT: u32 = 7;
 pub const FLAG: bool = false;
 
 // The lengths of the workspace, of an output of f64, and of any other output.
-pub const WORKSPACE: usize = 20300;
+pub const WORKSPACE: usize = 15350;
 
 pub const CELLS: usize = 101;
 

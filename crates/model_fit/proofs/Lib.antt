@@ -3,4 +3,3 @@ pub mod Laws
 pub mod Rows
 pub mod Status
 pub mod Fit
-pub mod Held

@@ -18,6 +18,7 @@ use Rattle.feature.proofs.Training.{length-kept, length-mask, mask-at}
 use Rattle.embedding.specs.Design.{orderOf, design}
 use Rattle.embedding.specs.declared.Model.{Model}
 use Rattle.embedding.specs.declared.Model.the-variants.{Retention, Mobility}
+use Rattle.embedding.proofs.Totals.{totals}
 use Rattle.regression.specs.Regression.{Sample}
 use Rattle.model_fit.specs.Input.{Input, Query, queryOf, queries}
 use Rattle.model_fit.specs.Samples.{designOf, sampleOf, samples, trainingSamples}
@@ -29,6 +30,11 @@ use Rattle.model_fit.proofs.Laws.{kept-suc}
 pub order-max : (model : Model) → orderOf model ≤ maxOrder
 order-max Retention = omega arith
 order-max Mobility = omega arith
+
+-- and just as many as its model's order
+pub wide-design : (model : Model) (letters : List ℕ) (log mass : Float) (charge : ℕ)
+    → length (design model letters log mass charge) ≡ orderOf model
+wide-design model letters log mass charge = totals model letters log mass charge .columns
 
 -- ---- queries
 

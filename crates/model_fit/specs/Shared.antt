@@ -1,10 +1,10 @@
 -- What the functions of the fit are passed and leave. Definitions only.
 use mathlib.Core.Path.{_≡_}
-use mathlib.Core.Bool.{Bool, true, false}
-use mathlib.Core.List.{List, [], _∷_, _++_}
-use Prim.Native.Nat.{ℕ, _+_, _≤_, _<_}
+use mathlib.Core.Bool.{true}
+use mathlib.Core.List.{List, _++_}
+use Prim.Native.Nat.{ℕ, _≤_, _<_}
 use lib.Ieee.{Float}
-use lib.ListN.{length, take, drop}
+use lib.ListN.{length, drop}
 use Rattle.params.specs.Slice.{Change}
 use Rattle.matrix.specs.Lists.{overwritten}
 use Rattle.status.specs.Checks.{allBelow}
@@ -12,7 +12,7 @@ use Rattle.status.specs.Limits.{maxRows}
 use Rattle.peptide.specs.Table.{Table, HasPeptide, offsetsRight}
 use Rattle.embedding.specs.Design.{orderOf}
 use Rattle.embedding.specs.declared.Model.{Model}
-use Rattle.regression.specs.Regression.{Fit, Sample, extended, normal, sumsOf, dot}
+use Rattle.regression.specs.Regression.{Fit, normal, sumsOf, dot}
 use Rattle.regression.specs.Workspace.{cleared, holding, FitSlices}
 use Rattle.regression.specs.declared.Sums.{Sums}
 use Rattle.regression.specs.declared.FitOutcome.{FitOutcome}
@@ -42,20 +42,6 @@ pub record Checked (i : Input) : Type 0 where
 pub record PeptidePredicted (D : ℕ) (design beta row₀ row₁ : List Float) (r : Float) : Type 0 where
   pub prediction : r ≡ dot design beta
   pub row : row₁ ≡ design ++ drop D row₀
-
--- a workspace holds the normal equations of all samples but the last, which is held back in a row
-pub record HeldBack (D : ℕ) (row workspace : List Float) (ss : List Sample) : Type 0 where
-  pub earlier : List Sample
-  pub last : Sample
-  pub all : ss ≡ earlier ++ last ∷ []
-  pub summed : workspace ≡ holding D (normal D earlier)
-  pub held : take (D + 1) row ≡ extended last
-  pub wide : length (last .row) ≡ D
-
--- it holds those of some samples, with the last one summed or held back
-abbrev pub Summed : ℕ → (held : Bool) → (row workspace : List Float) → List Sample → Type 0
-Summed D false row workspace ss = workspace ≡ holding D (normal D ss)
-Summed D true row workspace ss = HeldBack D row workspace ss
 
 -- the normal equations and the sums of the training rows
 pub record Accumulated (model : Model) (i : Input) (workspace : List Float) (r : Sums) : Type 0 where

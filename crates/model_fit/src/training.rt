@@ -1,7 +1,6 @@
 // The fit: one pass over the training rows for the normal equations, the solver, and one pass for the squared errors.
 ghost use mathlib.Core.Path.{_≡_};
-ghost use mathlib.Core.Bool.{not};
-ghost use mathlib.Core.List.{List, [], _∷_, _++_};
+ghost use mathlib.Core.List.{[]};
 ghost use Prim.Native.Nat.{_+_, _<_, _≤_};
 ghost use lib.IntN.{pos};
 ghost use lib.Ieee.{nan, binary64, sub};
@@ -9,14 +8,13 @@ ghost use lib.ListN.{length, getD, take};
 ghost use Rattle.feature.specs.Feature.{trains};
 ghost use Rattle.status.specs.Limits.{maxLetters};
 ghost use Rattle.embedding.specs.Design.{orderOf, design};
-ghost use Rattle.regression.specs.Regression.{Sample, extended, normal, sse};
-ghost use Rattle.regression.specs.Workspace.{Workspace, holding, fitSlices};
+ghost use Rattle.regression.specs.Regression.{extended, normal, addRow, sse};
+ghost use Rattle.regression.specs.Workspace.{Workspace, equations, withEquations, holding, fitSlices};
 ghost use Rattle.model_fit.specs.Input.{inputAt, modelInput};
 ghost use Rattle.model_fit.specs.Samples.{sampleFrom, trainingSamples, fitOfInput};
 ghost use Rattle.model_fit.specs.Shared.{
   Checked,
   PeptidePredicted,
-  Summed,
   Accumulated,
   FittedBy,
 };
@@ -59,9 +57,8 @@ fn put_sample(
     row[d] = y;
 }
 
-// Adds a sample to the normal equations in `workspace`, with the one that is held back in `first`; or holds it
-// back there, if none is. So two samples are added in one pass over the equations, to each cell in their order.
-// `second` is room for a sample.
+// Adds a sample to the normal equations in `workspace`: the design row of a peptide's letters, log and mass and of a
+// charge, and its target. `row` is room for it.
 fn add_sample(
     model: Model,
     letters: &[u8],
@@ -69,42 +66,21 @@ fn add_sample(
     mass: f32,
     charge: u8,
     y: f64,
-    held: bool,
-    first: &mut [f64],
-    second: &mut [f64],
+    row: &mut [f64],
     workspace: &mut [f64],
 )
     requires { ⌜ length (now letters) ≤ maxLetters ⌝ }
-    requires { ⌜ (orderOf model < length (now first)) × (orderOf model < length (now second)) ⌝ }
-    requires { ⌜ Workspace (orderOf model) (now workspace) ⌝ }
-    ensures { λ _. ⌜ ((ss : List Sample)
-        → Summed (orderOf model) held (now (first .entry)) (now (workspace .entry)) ss
-        → Summed (orderOf model) (not held) (now (first .exit)) (now (workspace .exit))
-        (ss ++ sampleFrom (design model (now (letters .entry)) log mass charge) y ∷ [])) ⌝ }
-{
-    if held {
-        put_sample(model, letters, log, mass, charge, y, second);
-        let d = embedding::order(model);
-        let w = d + 1;
-        regression::add_two_rows(workspace, d, &first[..w], &second[..w]);
-    } else {
-        put_sample(model, letters, log, mass, charge, y, first);
-    }
-}
-
-// Adds the sample that is held back in `row`, if one is.
-fn add_held(model: Model, held: bool, row: &[f64], workspace: &mut [f64])
     requires { ⌜ orderOf model < length (now row) ⌝ }
     requires { ⌜ Workspace (orderOf model) (now workspace) ⌝ }
-    ensures { λ _. ⌜ ((ss : List Sample)
-        → Summed (orderOf model) held (now (row .entry)) (now (workspace .entry)) ss
-        → now (workspace .exit) ≡ holding (orderOf model) (normal (orderOf model) ss)) ⌝ }
+    ensures { λ _. ⌜ (let sample = sampleFrom (design model (now (letters .entry)) log mass charge) y in
+        now (workspace .exit) ≡ withEquations (orderOf model)
+        (addRow (equations (orderOf model) (now (workspace .entry))) (extended sample))
+        (now (workspace .entry))) ⌝ }
 {
-    if held {
-        let d = embedding::order(model);
-        let w = d + 1;
-        regression::add_row(workspace, d, &row[..w]);
-    }
+    put_sample(model, letters, log, mass, charge, y, row);
+    let d = embedding::order(model);
+    let w = d + 1;
+    regression::add_row(workspace, d, &row[..w]);
 }
 
 // Sums the normal equations of the training rows in `workspace`, which is cleared.
@@ -128,9 +104,7 @@ fn accumulate(
         (now (workspace .exit))
         r ⌝ }
 {
-    let mut first = [0.0f64; status::MAX_ORDER + 1];
-    let mut second = [0.0f64; status::MAX_ORDER + 1];
-    let mut held = false;
+    let mut row = [0.0f64; status::MAX_ORDER + 1];
     let mut sums = Sums::zero();
     for i in 0..peptide.len() {
         if !trains_at(label, q, i) {
@@ -143,22 +117,9 @@ fn accumulate(
         let sequence = peptide::sequence(letters, offsets, p);
         let log = log_at(logs, p);
         let mass = mass_at(masses, p);
-        add_sample(
-            model,
-            sequence,
-            log,
-            mass,
-            z,
-            y,
-            held,
-            &mut first,
-            &mut second,
-            workspace,
-        );
-        held = !held;
+        add_sample(model, sequence, log, mass, z, y, &mut row, workspace);
         sums = sums.add(y);
     }
-    add_held(model, held, &first, workspace);
     sums
 }
 

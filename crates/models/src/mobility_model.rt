@@ -8,7 +8,7 @@ use crate::prediction;
 use embedding::Model;
 
 // Fits the mobilities of the training rows. `beta` gets the 100 coefficients of a fit that is solved. The first
-// 20,200 cells of `workspace` are used, and end as +0.0 once the checks have passed.
+// 15,250 cells of `workspace` are used, and end as +0.0 once the checks have passed.
 pub fn fit(
     peptide: &[u32],
     label: &[i32],

@@ -8,7 +8,7 @@ use crate::prediction;
 use embedding::Model;
 
 // Fits the aligned times of the training rows. `beta` gets the 69 coefficients of a fit that is solved. The first
-// 9,660 cells of `workspace` are used, and end as +0.0 once the checks have passed.
+// 7,314 cells of `workspace` are used, and end as +0.0 once the checks have passed.
 pub fn fit(
     peptide: &[u32],
     label: &[i32],

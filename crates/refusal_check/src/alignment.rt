@@ -26,7 +26,7 @@ fn align(
     peptides: usize,
     cells: usize,
 )
-    requires { ⌜ cells ≤ 20300 ⌝ }
+    requires { ⌜ cells ≤ 15350 ⌝ }
 {
     let mut workspace = [CELL; WORKSPACE];
     let mut max_rt = [VALUE; VALUES];
@@ -71,7 +71,7 @@ fn align(
 
 // A row with the time 10.0.
 fn one(file: u32, peptide: u32, label: i32, files: usize, peptides: usize, cells: usize)
-    requires { ⌜ cells ≤ 20300 ⌝ }
+    requires { ⌜ cells ≤ 15350 ⌝ }
 {
     let f = [file];
     let p = [peptide];

@@ -36,7 +36,7 @@ fn run(
     logs: &[f64],
     cells: usize,
 )
-    requires { ⌜ cells ≤ 20300 ⌝ }
+    requires { ⌜ cells ≤ 15350 ⌝ }
 {
     let peptides = [peptide];
     let labels = [label];
@@ -116,7 +116,7 @@ fn run(
 
 // A training row, and a table of one peptide of one letter whose offsets are 0 and `end`.
 fn one(file: u32, peptide: u32, files: usize, letter: u8, end: u32, cells: usize)
-    requires { ⌜ cells ≤ 20300 ⌝ }
+    requires { ⌜ cells ≤ 15350 ⌝ }
 {
     let number = [file];
     let letters = [letter];
@@ -142,12 +142,12 @@ fn two(letters: &[u8], b: u32, c: u32) {
     let offsets = [0u32, b, c];
     let masses = [0.0f32; 2];
     let logs = [0.0f64; 2];
-    run(&zero, 0, 1, 1, letters, &offsets, &masses, &logs, 20300);
+    run(&zero, 0, 1, 1, letters, &offsets, &masses, &logs, 15350);
 }
 
 // The peptide A, in file 0 of 1.
 fn fitted(label: i32, mass: f32, log: f64, cells: usize)
-    requires { ⌜ cells ≤ 20300 ⌝ }
+    requires { ⌜ cells ≤ 15350 ⌝ }
 {
     let zero = [0u32];
     let offsets = [0u32, 1];
@@ -160,12 +160,12 @@ fn fitted(label: i32, mass: f32, log: f64, cells: usize)
 // mobility, and for both.
 fn accepted() {
     let nan = 0.0f32 / 0.0;
-    fitted(1, 0.0, 0.0, 20200);
-    fitted(1, 0.0, 0.0, 20300);
-    fitted(-1, 0.0, 0.0, 20300);
-    fitted(1, 0.0, 0.0 / 0.0, 20300);
-    fitted(1, nan, 0.0, 20300);
-    fitted(1, nan, 0.0 / 0.0, 20300);
+    fitted(1, 0.0, 0.0, 15250);
+    fitted(1, 0.0, 0.0, 15350);
+    fitted(-1, 0.0, 0.0, 15350);
+    fitted(1, 0.0, 0.0 / 0.0, 15350);
+    fitted(1, nan, 0.0, 15350);
+    fitted(1, nan, 0.0 / 0.0, 15350);
 }
 
 // 1: two file numbers, one time; with no file, which is 2 too; no log for a mass.
@@ -174,8 +174,8 @@ fn lengths() {
     let offsets = [0u32, 1];
     let masses = [0.0f32];
     let logs = [0.0f64];
-    run(&zeros, 0, 1, 1, b"A", &offsets, &masses, &logs, 20300);
-    run(&zeros, 0, 1, 0, b"A", &offsets, &masses, &logs, 20300);
+    run(&zeros, 0, 1, 1, b"A", &offsets, &masses, &logs, 15350);
+    run(&zeros, 0, 1, 0, b"A", &offsets, &masses, &logs, 15350);
     run(
         &zeros[..1],
         0,
@@ -185,7 +185,7 @@ fn lengths() {
         &offsets,
         &masses,
         &logs[..0],
-        20300,
+        15350,
     );
 }
 
@@ -193,13 +193,13 @@ fn lengths() {
 // the letters, which is 7 too, and with file 2 of 2, which is 4 too; outputs too short for 5 files; 4,096 files, which
 // are within the limits.
 fn limits() {
-    one(0, 0, 0, b'A', 1, 20300);
-    one(0, 0, 4097, b'A', 1, 20300);
-    one(0, 0, 1, b'A', 1, 20199);
-    one(0, 0, 1, b'A', 2, 20199);
-    one(2, 0, 2, b'A', 1, 20199);
-    one(0, 0, 5, b'A', 1, 20300);
-    one(0, 0, 4096, b'A', 1, 20300);
+    one(0, 0, 0, b'A', 1, 15350);
+    one(0, 0, 4097, b'A', 1, 15350);
+    one(0, 0, 1, b'A', 1, 15249);
+    one(0, 0, 1, b'A', 2, 15249);
+    one(2, 0, 2, b'A', 1, 15249);
+    one(0, 0, 5, b'A', 1, 15350);
+    one(0, 0, 4096, b'A', 1, 15350);
 }
 
 // 7: the offsets 0, 2, 1; with a lower-case letter, which is 6 too; a peptide of 256 letters.
@@ -213,12 +213,12 @@ fn offsets() {
 // 6: a lower-case letter; with file 2 of 2, which is 4 too, and with peptide 1 of 1, which is 5 too. 4: file 2 of 2;
 // with peptide 1 of 1. 5: peptide 1 of 1.
 fn numbers() {
-    one(0, 0, 1, b'a', 1, 20300);
-    one(2, 0, 2, b'a', 1, 20300);
-    one(0, 1, 1, b'a', 1, 20300);
-    one(2, 0, 2, b'A', 1, 20300);
-    one(2, 1, 2, b'A', 1, 20300);
-    one(0, 1, 1, b'A', 1, 20300);
+    one(0, 0, 1, b'a', 1, 15350);
+    one(2, 0, 2, b'a', 1, 15350);
+    one(0, 1, 1, b'a', 1, 15350);
+    one(2, 0, 2, b'A', 1, 15350);
+    one(2, 1, 2, b'A', 1, 15350);
+    one(0, 1, 1, b'A', 1, 15350);
 }
 
 pub(crate) fn calls() {

@@ -1,18 +1,16 @@
 -- Laws of the definitions of a regression: what one sample more does to every sum over the samples, and what the sums
 -- are of none.
-use mathlib.Core.Path.{_≡_, refl, ap, sym, _∙_}
+use mathlib.Core.Path.{_≡_, refl, sym, _∙_}
 use mathlib.Core.List.{List, [], _∷_, _++_, map, map-append, foldl-append}
-use Prim.Native.Nat.{ℕ, _+_, _*_, _<_}
+use Prim.Native.Nat.{ℕ, _+_, _<_}
 use native.Mathlib.Nat.{not-suc-le-zero, le-of-eq}
 use native.Mathlib.Omega.{arith}
-use lib.ListN.{length, replicate, length-append, List·getD-append, replicate-append-replicate}
+use lib.ListN.{length, length-append, List·getD-append}
 use lib.Ieee.{Float, nan, binary64, add, mul}
-use Rattle.matrix.specs.Rows.{rowsOf, flat}
 use Rattle.float.specs.Number.{zero64}
-use Rattle.matrix.proofs.Laws.{Wide, length-flat, rowsOf-flat}
+use Rattle.matrix.proofs.Laws.{Wide}
 use Rattle.matrix.specs.Lists.{zipped, tabulate}
-use Rattle.matrix.proofs.Lists.{length-tabulate, tabulate-same, tabulate-constant, wide-tabulate}
-use Rattle.matrix.proofs.Lists.{zipped-tabulate, flat-replicate, zipped-snoc}
+use Rattle.matrix.proofs.Lists.{length-tabulate, tabulate-same, wide-tabulate, zipped-tabulate, zipped-snoc}
 use Rattle.elimination.specs.Ridge.{firstSolved, ridges}
 use Rattle.regression.specs.declared.FitOutcome.the-variants.{NoTrainingRows}
 use Rattle.regression.specs.Regression.{Sample, extended, total, column, cov, rhs, normal, plusScaled, addRow}
@@ -33,19 +31,6 @@ module _ (D : ℕ) (ss : List Sample) where
   pub wide-normal : Wide (D + 1) (normal D ss)
   unfolding normal
   wide-normal = wide-tabulate (D + 1) D _ row-length
-
-  rows-normal : length (normal D ss) ≡ D
-  unfolding normal
-  rows-normal = length-tabulate D _
-
-  -- in one list, they are D × (D + 1) cells, and the rows are found again
-  pub length-normal : length (flat (normal D ss)) ≡ D * (D + 1)
-  length-normal = length-flat (D + 1) (normal D ss) wide-normal ∙ ap (λ (n : ℕ). n * (D + 1)) rows-normal
-
-  pub rowsOf-normal : rowsOf (D + 1) D (flat (normal D ss)) ≡ normal D ss
-  rowsOf-normal =
-      ap (λ (n : ℕ). rowsOf (D + 1) n (flat (normal D ss))) (sym rows-normal)
-      ∙ rowsOf-flat (D + 1) (normal D ss) wide-normal
 
   -- one sample more
   module _ (s : Sample) (wide : length (s .row) ≡ D) where
@@ -68,14 +53,6 @@ module _ (D : ℕ) (ss : List Sample) where
         zipped-tabulate (λ (r : List Float) x. zipped (plusScaled x) r (extended s)) nan D _ (extended s)
         (simp length-append (omega arith))
         ∙ tabulate-same D _ _ (λ j l. rw (List·getD-append (s .row) (s .y ∷ []) nan j (omega arith)) (row-more j))
-
--- of no sample, in one list
-pub normal-nil : (D : ℕ) → flat (normal D []) ≡ replicate (D * (D + 1)) zero64
-unfolding normal
-normal-nil D =
-    let row : List Float = replicate (D + 1) zero64 in
-    rw (tabulate-constant D zero64, replicate-append-replicate D 1 zero64, tabulate-constant D row)
-    (flat-replicate D (D + 1) zero64)
 
 -- ---- the target's sums and the sum of squared errors
 

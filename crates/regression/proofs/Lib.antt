@@ -1,3 +1,6 @@
 -- Laws that the proofs of this crate and of the crates above cite.
 pub mod Laws
+pub mod Falling
+pub mod Triangle
+pub mod Unfolding
 pub mod Workspace

@@ -3,6 +3,7 @@
 use mathlib.Core.Path.{_≡_, refl, sym, ap, _∙_}
 use mathlib.Core.List.{List, [], _∷_, _++_, append-nil}
 use Prim.Native.Nat.{ℕ, _+_, _-_, _≤_}
+use native.Mathlib.Nat.{le-of-eq}
 use native.Mathlib.Omega.{arith}
 use lib.Ieee.{Float}
 use lib.ListN.{length, take, drop, replicate, length-append, length-drop, length-replicate}
@@ -10,37 +11,53 @@ use lib.ListN.{replicate-append-replicate, drop-of-length-le}
 use lib.Seq.{take-all, take-at, drop-at, length-take-le}
 use Rattle.params.specs.Slice.{change}
 use Rattle.float.specs.Number.{zero64}
-use Rattle.matrix.specs.Rows.{rowsOf, flat}
+use Rattle.matrix.specs.Rows.{flat}
 use Rattle.matrix.proofs.Laws.{put}
 use Rattle.matrix.proofs.Lists.{take-replicate}
 use Rattle.elimination.specs.Ridge.{Solution, solved, unsolved, written}
 use Rattle.regression.specs.Regression.{Sample, extended, normal, addRow}
-use Rattle.regression.specs.Workspace.{workspaceCells, systemLength, equations, withEquations}
+use Rattle.regression.specs.Falling.{fallingRows, fallingStart}
+use Rattle.regression.specs.Triangle.{triangle, addTriangle, unfolded, folded}
+use Rattle.regression.specs.Workspace.{workspaceCells, systemLength, stored, equations, withEquations}
 use Rattle.regression.specs.Workspace.{cleared, holding, FitSlices}
 use Rattle.regression.specs.Solve.{SolvedBy, solutionIn, ridgeOf}
 use Rattle.regression.specs.declared.FirstRidge.the-variants.{Solves, None}
-use Rattle.regression.proofs.Laws.{length-normal, rowsOf-normal, normal-snoc, normal-nil}
+use Rattle.regression.proofs.Laws.{normal-snoc}
+use Rattle.regression.proofs.Falling.{Falling, falling-rows, length-falling}
+use Rattle.regression.proofs.Triangle.{length-triangle, rows-of-triangle, triangle-nil, cells-triangle}
+use Rattle.regression.proofs.Triangle.{unfolded-triangle, folded-normal, folded-add}
 
--- ---- the equations' part, lent to a step
+-- ---- its two parts
 
-module _ (D half : ℕ) (cells : List Float) (count : length cells ≡ workspaceCells D)
-    (is-half : half ≡ systemLength D) where
-  pub part-is : take (length cells - half) (drop half cells) ≡ drop (systemLength D) cells
+-- it is full rows, and then the rows that are stored
+pub two-parts : (D : ℕ) → workspaceCells D ≡ systemLength D + fallingStart (D + 1) D
+two-parts D = omega (arith, cells-triangle D)
+
+-- ---- the stored part, lent to a step
+
+module _ (D split : ℕ) (cells : List Float) (count : length cells ≡ workspaceCells D)
+    (is-split : split ≡ systemLength D) where
+  pub part-is : take (length cells - split) (drop split cells) ≡ drop (systemLength D) cells
   part-is =
       let k : ℕ = systemLength D in
-      rw is-half (take-all (length cells - k) (drop k cells) (rw length-drop (omega arith)))
+      rw is-split (take-all (length cells - k) (drop k cells) (rw length-drop (omega arith)))
 
-  pub part-length : length (drop (systemLength D) cells) ≡ systemLength D
-  part-length = rw length-drop (omega arith)
+  pub part-length : length (drop (systemLength D) cells) ≡ fallingStart (D + 1) D
+  part-length = rw length-drop (omega (arith, two-parts D))
 
-  -- as it comes back
-  pub part-back : (acc : List Float) (rows : List (List Float)) → acc ≡ flat rows
-      → put half (length cells - half) acc cells ≡ withEquations D rows cells
+  pub part-shape : Falling (D + 1) (stored D cells)
+  part-shape = falling-rows (D + 1) D (drop (systemLength D) cells) (le-of-eq (sym part-length))
+
+  -- as it comes back, with a sample added
+  pub part-back : (acc ext : List Float) → length ext ≡ D + 1 → acc ≡ flat (addTriangle (stored D cells) ext)
+      → put split (length cells - split) acc cells ≡ withEquations D (addRow (equations D cells) ext) cells
   unfolding withEquations
-  part-back acc rows e =
-      let rest : drop (length cells - half) (drop half cells) ≡ [] =
-      drop-of-length-le (drop half cells) {i = length cells - half} (rw length-drop (omega arith)) in
-      rw (e, rest, append-nil, is-half)
+  part-back acc ext wide e =
+      let rest : drop (length cells - split) (drop split cells) ≡ [] =
+      drop-of-length-le (drop split cells) {i = length cells - split} (rw length-drop (omega arith)) in
+      let rows : folded D (addRow (equations D cells) ext) ≡ addTriangle (stored D cells) ext =
+      folded-add D (stored D cells) (length-falling (D + 1) D _) part-shape ext wide in
+      rw (e, rest, append-nil, is-split, rows)
 
 -- ---- what it holds
 
@@ -50,19 +67,12 @@ module _ (D : ℕ) where
       → withEquations D rows₁ (withEquations D rows cells) ≡ withEquations D rows₁ cells
   unfolding withEquations
   with-again rows rows₁ cells h =
-      ap (λ (t : List Float). t ++ flat rows₁)
-      (take-at (take (systemLength D) cells) (flat rows) (systemLength D) (length-take-le (systemLength D) cells h))
-
-  -- and are found again
-  with-found : (rows : List (List Float)) (cells : List Float) → systemLength D ≤ length cells
-      → equations D (withEquations D rows cells) ≡ rowsOf (D + 1) D (flat rows)
-  unfolding withEquations
-  with-found rows cells h =
-      ap (rowsOf (D + 1) D)
-      (drop-at (take (systemLength D) cells) (flat rows) (systemLength D) (length-take-le (systemLength D) cells h))
+      ap (λ (t : List Float). t ++ flat (folded D rows₁))
+      (take-at (take (systemLength D) cells) (flat (folded D rows)) (systemLength D)
+      (length-take-le (systemLength D) cells h))
 
   blank-long : systemLength D ≤ length (replicate (workspaceCells D) zero64)
-  blank-long = rw length-replicate (omega arith)
+  blank-long = rw length-replicate (omega (arith, two-parts D))
 
   -- cleared, it holds the equations of no sample
   pub cleared-holds : (cells : List Float) → length cells ≡ workspaceCells D
@@ -70,38 +80,39 @@ module _ (D : ℕ) where
   unfolding withEquations
   cleared-holds cells e =
       let k : ℕ = systemLength D in
-      let two : workspaceCells D ≡ k + k = omega arith in
-      rw (e, normal-nil D, take-replicate k (workspaceCells D) zero64 (omega arith), two)
-      (sym (replicate-append-replicate k k zero64))
+      let n : ℕ = fallingStart (D + 1) D in
+      let front = take-replicate k (workspaceCells D) zero64 (omega (arith, two-parts D)) in
+      rw (e, folded-normal D [], triangle-nil D, front, two-parts D)
+      (sym (replicate-append-replicate k n zero64))
 
   module _ (ss : List Sample) where
+    -- its stored rows are the triangle of the samples' equations, which unfolds to all of them
+    pub stored-triangle : stored D (holding D (normal D ss)) ≡ triangle D ss
+    unfolding withEquations
+    stored-triangle =
+        let blank : List Float = replicate (workspaceCells D) zero64 in
+        let rows : List Float = flat (folded D (normal D ss)) in
+        ap (fallingRows (D + 1) D)
+        (drop-at (take (systemLength D) blank) rows (systemLength D) (length-take-le (systemLength D) blank blank-long))
+        ∙ ap (λ (t : List (List Float)). fallingRows (D + 1) D (flat t)) (folded-normal D ss)
+        ∙ rows-of-triangle D ss
+
     pub equations-normal : equations D (holding D (normal D ss)) ≡ normal D ss
-    equations-normal = with-found (normal D ss) _ blank-long ∙ rowsOf-normal D ss
+    equations-normal = ap (unfolded D) stored-triangle ∙ unfolded-triangle D ss
 
     pub length-holding : length (holding D (normal D ss)) ≡ workspaceCells D
     unfolding withEquations
     length-holding =
         let n = length-take-le (systemLength D) (replicate (workspaceCells D) zero64) blank-long in
-        simp (length-append, length-normal) (omega (arith, n))
+        rw folded-normal (simp (length-append, length-triangle) (omega (arith, n, two-parts D)))
 
-    module _ (cells cells₁ : List Float) (holds : cells ≡ holding D (normal D ss)) where
-      -- after `add_row`
-      pub add-row-holds : (s : Sample) (ext : List Float) → length (s .row) ≡ D → ext ≡ extended s
-          → cells₁ ≡ withEquations D (addRow (equations D cells) ext) cells
-          → cells₁ ≡ holding D (normal D (ss ++ s ∷ []))
-      add-row-holds s ext wide x e =
-          e ∙ rw (holds, x, equations-normal, normal-snoc D ss s wide) (with-again (normal D ss) _ _ blank-long)
-
-      -- after `add_two_rows`
-      pub add-two-rows-holds : (s t : Sample) (first second : List Float) → length (s .row) ≡ D
-          → length (t .row) ≡ D
-          → first ≡ extended s
-          → second ≡ extended t
-          → cells₁ ≡ withEquations D (addRow (addRow (equations D cells) first) second) cells
-          → cells₁ ≡ holding D (normal D ((ss ++ s ∷ []) ++ t ∷ []))
-      add-two-rows-holds s t first second wide wide′ x x′ e =
-          e ∙ rw (holds, x, x′, equations-normal, normal-snoc D ss s wide, normal-snoc D (ss ++ s ∷ []) t wide′)
-          (with-again (normal D ss) _ _ blank-long)
+    -- after `add_row`
+    pub add-row-holds : (cells cells₁ : List Float) → cells ≡ holding D (normal D ss)
+        → (s : Sample) (ext : List Float) → length (s .row) ≡ D → ext ≡ extended s
+        → cells₁ ≡ withEquations D (addRow (equations D cells) ext) cells
+        → cells₁ ≡ holding D (normal D (ss ++ s ∷ []))
+    add-row-holds cells cells₁ holds s ext wide x e =
+        e ∙ rw (holds, x, equations-normal, normal-snoc D ss s wide) (with-again (normal D ss) _ _ blank-long)
 
 -- ---- what the answer of `solve` says
 

@@ -13,7 +13,7 @@ use Rattle.regression.specs.Workspace.{systemLength, equations, cleared,
 use Rattle.regression.specs.declared.FirstRidge.{FirstRidge}
 use Rattle.regression.specs.declared.FirstRidge.the-variants.{Solves, None}
 
--- one try: the first half holds the eliminated rows, the second half what it held
+-- one try: the full rows are eliminated, and the stored ones as they were
 pub record Attempted (D : ℕ) (eps : Float) (cells₀ cells₁ : List Float) (r : Bool) : Type 0 where
   pub answer : r ≡ leftSolved D (eliminate D eps (equations D cells₀))
   pub system : rowsOf (D + 1) D (take (systemLength D) cells₁) ≡ eliminate D eps (equations D cells₀)

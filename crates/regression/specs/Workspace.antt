@@ -2,35 +2,41 @@
 -- lie in it. No other crate knows. Definitions only.
 use mathlib.Core.Path.{_≡_}
 use mathlib.Core.List.{List, _++_}
-use Prim.Native.Nat.{ℕ, _+_, _*_, _≤_}
+use Prim.Native.Nat.{ℕ, _+_, _*_, _/_, _≤_}
 use lib.ListN.{length, take, drop, replicate}
 use lib.Ieee.{Float}
 use denote.Ref.{now}
 use Rattle.params.specs.Slice.{Change, change, Slice}
 use Rattle.status.specs.Limits.{maxOrder}
-use Rattle.matrix.specs.Rows.{rowsOf, flat}
+use Rattle.matrix.specs.Rows.{flat}
 use Rattle.float.specs.Number.{zero64}
+use Rattle.regression.specs.Falling.{fallingRows}
+use Rattle.regression.specs.Triangle.{unfolded, folded}
 
 abbrev pub workspaceCells : ℕ → ℕ
-workspaceCells D = 2 * D * D + 2 * D
+workspaceCells D = D * D + D * (D + 1) / 2 + 2 * D
 
 pub record Workspace (D : ℕ) (cells : List Float) : Type 0 where
   pub order : D ≤ maxOrder
   pub count : length cells ≡ workspaceCells D
 
--- ---- its two halves: rows that the elimination works on, and the equations
+-- ---- its two parts: full rows that the elimination works on, and the equations as they are stored
 
 -- the cells of D augmented rows
 abbrev pub systemLength : ℕ → ℕ
 systemLength D = D * (D + 1)
 
+-- the rows that are stored, each from its diagonal on
+abbrev pub stored : ℕ → List Float → List (List Float)
+stored D cells = fallingRows (D + 1) D (drop (systemLength D) cells)
+
 -- the equations that it holds, D rows [cov | b]
 abbrev pub equations : ℕ → List Float → List (List Float)
-equations D cells = rowsOf (D + 1) D (drop (systemLength D) cells)
+equations D cells = unfolded D (stored D cells)
 
 -- the workspace with these equations in place of its own
 unfoldable pub withEquations : ℕ → (rows : List (List Float)) (cells : List Float) → List Float
-withEquations D rows cells = take (systemLength D) cells ++ flat rows
+withEquations D rows cells = take (systemLength D) cells ++ flat (folded D rows)
 
 -- ---- what a fit leaves in it
 

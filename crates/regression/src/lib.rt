@@ -1,14 +1,18 @@
 // Streaming least squares: the normal equations are summed row by row, without the design matrix, and
 // solved with the first ridge that does. The steps here are called by the loops of both models, for any
-// order D. The equations are D rows of D + 1 cells, [cov | b] row by row, and lie in the fit's workspace: what
-// else is in it, and where, is this crate's own.
+// order D. The equations are D rows of D + 1 cells, [cov | b]. Since cov is symmetric to the bit, each row is stored
+// from its diagonal on, in the fit's workspace: where, and what else is in it, is this crate's own.
 ghost use mathlib.Core.Path.{_≡_};
+ghost use mathlib.Core.Bool.{cond};
 ghost use mathlib.Core.List.{_++_};
-ghost use Prim.Native.Nat.{_+_, _-_, _*_, _≤_, _<_};
-ghost use lib.ListN.{length, drop};
-ghost use Rattle.matrix.specs.Rows.{rowsOf, flat};
-ghost use Rattle.matrix.specs.Lists.{zipped};
+ghost use Prim.Native.Nat.{_+_, _-_, _≤_, _<_};
+ghost use lib.Dec.{ltb};
+ghost use lib.ListN.{length, take, drop};
+ghost use Rattle.matrix.specs.Rows.{flat};
+ghost use Rattle.matrix.specs.Lists.{zipped, tabulate};
 ghost use Rattle.status.specs.Limits.{maxOrder, maxRows};
+ghost use Rattle.regression.specs.Falling.{fallingRows, fallingStart};
+ghost use Rattle.regression.specs.Triangle.{addTriangle, mirrored, unfolded};
 ghost use Rattle.regression.specs.Workspace.{
   Workspace,
   workspaceCells,
@@ -54,53 +58,19 @@ fn add_scaled(dst: &mut [f64], src: &[f64], factor: f64)
     }
 }
 
-// Adds to row j of `acc`, which has one row less than it has columns, `ext[j]` times `ext`.
+// Adds to row j of `acc`, whose rows begin on the diagonal, `ext[j]` times `ext` from column j on. Row 0 is as long as
+// `ext`, and each row one cell shorter than the row before it, down to two cells.
 fn add_to_rows(acc: &mut [f64], ext: &[f64])
-    requires { ⌜ length (now acc) ≡ (length (now ext) - 1) * length (now ext) ⌝ }
+    requires { ⌜ length (now acc) ≡ fallingStart (length (now ext)) (length (now ext) - 1) ⌝ }
     ensures { λ _. ⌜ (let w = length (now (ext .entry)) in
-        now (acc .exit) ≡ flat (addRow (rowsOf w (w - 1) (now (acc .entry))) (now (ext .entry)))) ⌝ }
+        now (acc .exit) ≡ flat (addTriangle (fallingRows w (w - 1) (now (acc .entry))) (now (ext .entry)))) ⌝ }
 {
     let w = ext.len();
     let mut start = 0usize;
     let mut j = 0usize;
     while j + 1 < w {
-        let end = start + w;
-        add_scaled(&mut acc[start..end], ext, ext[j]);
-        start = end;
-        j += 1;
-    }
-}
-
-// Adds `a` times `x` and then `b` times `y`, which are at least as long as `dst`, to `dst`, cell by cell.
-fn add_scaled_two(dst: &mut [f64], x: &[f64], a: f64, y: &[f64], b: f64)
-    requires { ⌜ length (now dst) ≤ length (now x) ⌝ }
-    requires { ⌜ length (now dst) ≤ length (now y) ⌝ }
-    ensures { λ _. ⌜ now (dst .exit) ≡ zipped (plusScaled b)
-        (zipped (plusScaled a) (now (dst .entry)) (now (x .entry)))
-        (now (y .entry)) ⌝ }
-{
-    let mut k = 0usize;
-    while k < dst.len() {
-        dst[k] = dst[k] + a * x[k] + b * y[k];
-        k += 1;
-    }
-}
-
-// Adds to each cell of `acc` what `add_to_rows` does for `first`, and then for `second`, in one pass.
-fn add_two_to_rows(acc: &mut [f64], first: &[f64], second: &[f64])
-    requires { ⌜ length (now acc) ≡ (length (now first) - 1) * length (now first) ⌝ }
-    requires { ⌜ length (now second) ≡ length (now first) ⌝ }
-    ensures { λ _. ⌜ (let w = length (now (first .entry)) in
-        now (acc .exit) ≡ flat (addRow
-        (addRow (rowsOf w (w - 1) (now (acc .entry))) (now (first .entry)))
-        (now (second .entry)))) ⌝ }
-{
-    let w = first.len();
-    let mut start = 0usize;
-    let mut j = 0usize;
-    while j + 1 < w {
-        let end = start + w;
-        add_scaled_two(&mut acc[start..end], first, first[j], second, second[j]);
+        let end = start + (w - j);
+        add_scaled(&mut acc[start..end], &ext[j..], ext[j]);
         start = end;
         j += 1;
     }
@@ -111,18 +81,22 @@ fn system_length(d: usize) -> usize
     requires { ⌜ d ≤ maxOrder ⌝ }
     ensures { λ r. ⌜ r ≡ systemLength d ⌝ }
 {
-    d * (d + 1)
+    ((d as u32) * (d as u32 + 1)) as usize
 }
 
 // The cells of the workspace of a fit of the largest order, for arrays.
-pub const MAX_WORKSPACE: usize = 2 * status::MAX_ORDER * (status::MAX_ORDER + 1);
+pub const MAX_WORKSPACE: usize = status::MAX_ORDER * status::MAX_ORDER
+    + status::MAX_ORDER * (status::MAX_ORDER + 1) / 2
+    + 2 * status::MAX_ORDER;
 
-// How many cells the workspace of a fit has: two systems. For the models, whose order d is at most 100.
+// How many cells the workspace of a fit has: a system, and for the stored equations half as many and one more for each
+// row. For the models, whose order d is at most 100.
 pub fn workspace_cells(d: usize) -> usize
     requires { ⌜ d ≤ maxOrder ⌝ }
     ensures { λ r. ⌜ r ≡ workspaceCells d ⌝ }
 {
-    2 * system_length(d)
+    let system = system_length(d);
+    system + system / 2 + d
 }
 
 // Clears a workspace: it then holds the normal equations of no sample.
@@ -140,21 +114,8 @@ pub fn add_row(workspace: &mut [f64], d: usize, ext: &[f64])
         (addRow (equations d (now (workspace .entry))) (now (ext .entry)))
         (now (workspace .entry)) ⌝ }
 {
-    let half = system_length(d);
-    add_to_rows(&mut workspace[half..], ext);
-}
-
-// Adds two samples in one pass over the normal equations, to each cell the first sample's product before the
-// second's: what `add_row` does twice. For the models.
-pub fn add_two_rows(workspace: &mut [f64], d: usize, first: &[f64], second: &[f64])
-    requires { ⌜ Workspace d (now workspace) ⌝ }
-    requires { ⌜ (length (now first) ≡ d + 1) × (length (now second) ≡ d + 1) ⌝ }
-    ensures { λ _. ⌜ now (workspace .exit) ≡ withEquations d
-        (addRow (addRow (equations d (now (workspace .entry))) (now (first .entry))) (now (second .entry)))
-        (now (workspace .entry)) ⌝ }
-{
-    let half = system_length(d);
-    add_two_to_rows(&mut workspace[half..], first, second);
+    let split = system_length(d);
+    add_to_rows(&mut workspace[split..], ext);
 }
 
 // The number of samples, the sum of their targets and of the targets' squares.
@@ -216,29 +177,61 @@ pub fn r2(sums: Sums, sse: f64) -> f64
     float::canonical64(1.0 - sse / y_var)
 }
 
-// Copies the second half of the cells over the first.
-fn restore(cells: &mut [f64], half: usize)
-    requires { ⌜ length (now cells) ≡ half + half ⌝ }
-    ensures { λ _. ⌜ now (cells .exit) ≡ drop half (now (cells .entry)) ++ drop half (now (cells .entry)) ⌝ }
+// How far the stored cell for row j and column k + 1 lies from that for column k: down a column by the length of row k
+// less one, and by 1 along row j.
+fn step(d: usize, j: usize, k: usize) -> usize
+    requires { ⌜ j ≤ d ⌝ }
+    ensures { λ r. ⌜ r ≡ cond (ltb k j) (d - k) 1 ⌝ }
 {
-    let mut i = 0usize;
-    let mut from = half;
-    while i < half {
-        cells[i] = cells[from];
-        from += 1;
-        i += 1;
+    if k < j {
+        return d - k;
+    }
+    1
+}
+
+// Writes the full row j, of d + 1 cells, into the cells from `to` on. The stored cells lie from `split` on.
+fn unfold_row(cells: &mut [f64], d: usize, split: usize, j: usize, to: usize)
+    requires { ⌜ (j < d) × (d ≤ maxOrder) ⌝ }
+    requires { ⌜ (to + (d + 1) ≤ split) × (length (now cells) ≡ split + fallingStart (d + 1) d) ⌝ }
+    ensures { λ _. ⌜ (let rows = fallingRows (d + 1) d (drop split (now (cells .entry))) in
+        now (cells .exit) ≡ take to (now (cells .entry))
+        ++ tabulate (d + 1) (mirrored rows j)
+        ++ drop (to + (d + 1)) (now (cells .entry))) ⌝ }
+{
+    let mut from = split + j;
+    let mut k = 0usize;
+    while k <= d {
+        cells[to + k] = cells[from];
+        from = from + step(d, j, k);
+        k += 1;
     }
 }
 
-// One try: eliminates a copy of the normal equations with the ridge `eps` and says whether that solves
+// Unfolds the stored equations, whose cells lie from `split` on, into the d full rows of d + 1 cells before them.
+fn unfold(cells: &mut [f64], d: usize, split: usize)
+    requires { ⌜ d ≤ maxOrder ⌝ }
+    requires { ⌜ (split ≡ systemLength d) × (length (now cells) ≡ split + fallingStart (d + 1) d) ⌝ }
+    ensures { λ _. ⌜ (let stored = drop split (now (cells .entry)) in
+        now (cells .exit) ≡ flat (unfolded d (fallingRows (d + 1) d stored)) ++ stored) ⌝ }
+{
+    let mut to = 0usize;
+    let mut j = 0usize;
+    while j < d {
+        unfold_row(cells, d, split, j, to);
+        to = to + (d + 1);
+        j += 1;
+    }
+}
+
+// One try: eliminates the full rows of the normal equations with the ridge `eps` and says whether that solves
 // them.
 fn attempt(workspace: &mut [f64], d: usize, eps: f64) -> bool
     requires { ⌜ Workspace d (now workspace) ⌝ }
     ensures { λ r. ⌜ Attempted d eps (now (workspace .entry)) (now (workspace .exit)) r ⌝ }
 {
-    let half = system_length(d);
-    restore(workspace, half);
-    elimination::solve_inner(&mut workspace[..half], d, 1, eps)
+    let split = system_length(d);
+    unfold(workspace, d, split);
+    elimination::solve_inner(&mut workspace[..split], d, 1, eps)
 }
 
 // Tries the ridges 1E-8, 1E-7 and so on up to 1.0.
@@ -250,11 +243,11 @@ fn first_solved(workspace: &mut [f64], d: usize, beta: &mut [f64]) -> FirstRidge
         (now (beta .exit))
         r ⌝ }
 {
-    let half = system_length(d);
+    let split = system_length(d);
     let mut eps = 1E-8;
     while eps <= 1.0 {
         if attempt(workspace, d, eps) {
-            elimination::right_side(beta, &workspace[..half], d, 1);
+            elimination::right_side(beta, &workspace[..split], d, 1);
             return FirstRidge::Solves(eps);
         }
         eps = eps * 10.0;

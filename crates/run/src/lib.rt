@@ -141,7 +141,7 @@ fn run_accepted(
     }
 }
 
-// Runs a batch. Of the workspace it needs the larger of peptides × files and 20,200 cells, of each field of the files'
+// Runs a batch. Of the workspace it needs the larger of peptides × files and 15,250 cells, of each field of the files'
 // records one for each file, of aligned, of the predictions and of the errors one for each row, and 69 and 100
 // coefficients. What is longer keeps its rest, a refused call leaves every slice as it was, and the outputs of a
 // model that does not fit keep what they held.

@@ -92,29 +92,29 @@ static void models(void) {
     const float aligned[] = {0.25f, 0.75f, 0.5f};
     const uint8_t charge[] = {2, 2, 3};
     const float mobility[] = {0.75f, 0.875f, 1.0f};
-    static double workspace[20200];
+    static double workspace[15250];
     double beta[100];
     float predicted[3], error[3];
 
     zorkamai_answer a = zorkamai_retention_predict(
         peptide, 3, label, 3, q, 3, aligned, 3, letters, 8, offsets, 3, masses, 2, logs, 2,
-        workspace, 9660, beta, 69, predicted, 3, error, 3);
+        workspace, 7314, beta, 69, predicted, 3, error, 3);
     expect(a.status == 0 && a.n == 2, "retention is fitted to the two rows that train");
     expect(error[0] < 0.01f && error[1] < 0.01f, "and predicts them");
     printf("retention: ridge %g, r2 %g, off by %g for the row outside, inexact %u of 3\n",
            a.ridge, a.r2, error[2], a.inexact);
     a = zorkamai_mobility_predict(
         peptide, 3, label, 3, q, 3, charge, 3, mobility, 3, letters, 8, offsets, 3, masses, 2,
-        workspace, 20200, beta, 100, predicted, 3, error, 3);
+        workspace, 15250, beta, 100, predicted, 3, error, 3);
     expect(a.status == 0 && a.n == 2 && error[0] < 0.01f, "and so is mobility");
     printf("mobility: ridge %g, r2 %g, inexact %u of 3\n", a.ridge, a.r2, a.inexact);
     a = zorkamai_retention_fit(
         peptide, 3, label, 3, q, 3, aligned, 3, letters, 7, offsets, 3, masses, 2, logs, 2,
-        workspace, 9660, beta, 69);
+        workspace, 7314, beta, 69);
     expect(a.status == 7, "offsets past the letters are refused");
     a = zorkamai_mobility_fit(
         peptide, 1, label + 2, 1, q, 1, charge, 1, mobility, 1, letters, 8, offsets, 3, masses, 2,
-        workspace, 20200, beta, 100);
+        workspace, 15250, beta, 100);
     expect(a.status == 8 && a.inexact == 0, "no row trains");
 }
 
@@ -124,7 +124,7 @@ static void whole_run(void) {
     const float q[] = {0.001f}, rt[] = {10.0f}, mobility[] = {0.75f}, masses[] = {435.18f};
     const uint8_t charge[] = {2}, letters[] = "ACDK";
     const double logs[] = {log1p(435.18f)};
-    static double workspace[20200];
+    static double workspace[15250];
     double retention_beta[69], mobility_beta[100];
     float max_rt[1], slope[1], intercept[1], aligned[1], time[1], time_error[1], ims[1], ims_error[1];
     uint32_t used[1];
@@ -132,7 +132,7 @@ static void whole_run(void) {
 
     zorkamai_run_report r = zorkamai_run(
         file, 1, peptide, 1, label, 1, q, 1, rt, 1, charge, 1, mobility, 1, 1, letters, 4, offsets, 2,
-        masses, 1, logs, 1, workspace, 20200, max_rt, 1, slope, 1, intercept, 1, used, 1,
+        masses, 1, logs, 1, workspace, 15250, max_rt, 1, slope, 1, intercept, 1, used, 1,
         max_rt_exact, 1, slope_exact, 1, intercept_exact, 1, aligned, 1,
         retention_beta, 69, time, 1, time_error, 1, mobility_beta, 100, ims, 1, ims_error, 1);
     expect(r.status == 0 && r.retention.status == 0 && r.mobility.status == 0, "both models fit");
@@ -143,10 +143,10 @@ static void whole_run(void) {
     expect(max_rt_exact[0] && slope_exact[0] && intercept_exact[0], "longest 10, slope 0 and intercept 1 are exact");
     r = zorkamai_run(
         file, 1, peptide, 1, label, 1, q, 1, rt, 1, charge, 1, mobility, 1, 1, letters, 4, offsets, 2,
-        masses, 1, logs, 1, workspace, 20199, max_rt, 1, slope, 1, intercept, 1, used, 1,
+        masses, 1, logs, 1, workspace, 15249, max_rt, 1, slope, 1, intercept, 1, used, 1,
         max_rt_exact, 1, slope_exact, 1, intercept_exact, 1, aligned, 1,
         retention_beta, 69, time, 1, time_error, 1, mobility_beta, 100, ims, 1, ims_error, 1);
-    expect(r.status == 3 && r.retention.status == 3, "20,199 cells of work room are too few");
+    expect(r.status == 3 && r.retention.status == 3, "15,249 cells of work room are too few");
     expect(r.retention.inexact == 0 && r.mobility.inexact == 0, "and nothing is counted");
 }
 

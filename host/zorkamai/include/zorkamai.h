@@ -115,7 +115,7 @@ uint8_t zorkamai_align(
 
 /* Fits the retention model to the aligned times of the training rows: those with label 1 and a q of at most
  * 0.01. Peptide i has the letters from offsets[i] to offsets[i + 1], a mass, and the log ln(1 + mass). Needs
- * 9,660 cells of workspace and 69 of beta, the coefficients. */
+ * 7,314 cells of workspace and 69 of beta, the coefficients. */
 zorkamai_answer zorkamai_retention_fit(
     const uint32_t *peptide, size_t peptide_len, const int32_t *label, size_t label_len,
     const float *q, size_t q_len, const float *aligned, size_t aligned_len,
@@ -133,7 +133,7 @@ zorkamai_answer zorkamai_retention_predict(
     double *workspace, size_t workspace_len, double *beta, size_t beta_len,
     float *predicted, size_t predicted_len, float *error, size_t error_len);
 
-/* Fits the mobility model to the mobilities of the training rows. Needs 20,200 cells of workspace and 100 of
+/* Fits the mobility model to the mobilities of the training rows. Needs 15,250 cells of workspace and 100 of
  * beta, the coefficients. */
 zorkamai_answer zorkamai_mobility_fit(
     const uint32_t *peptide, size_t peptide_len, const int32_t *label, size_t label_len,
@@ -153,7 +153,7 @@ zorkamai_answer zorkamai_mobility_predict(
     float *predicted, size_t predicted_len, float *error, size_t error_len);
 
 /* The alignment, both fits on it, and the predictions and errors of each model that fits. Needs of workspace the
- * larger of peptides * files and 20,200 cells, a cell for each file of the seven columns from max_rt to
+ * larger of peptides * files and 15,250 cells, a cell for each file of the seven columns from max_rt to
  * intercept_exact, 69 and 100 of the coefficients, and one for each row of the others. */
 zorkamai_run_report zorkamai_run(
     const uint32_t *file, size_t file_len, const uint32_t *peptide, size_t peptide_len,

@@ -108,7 +108,7 @@ pub mod retention {
     /// The number of columns.
     pub const COLUMNS: usize = 69;
     /// The cells of work room that a fit needs.
-    pub const WORKSPACE: usize = 9_660;
+    pub const WORKSPACE: usize = 7_314;
 
     /// Fits the model to the training rows; `aligned` has an aligned time for each row.
     ///
@@ -172,7 +172,7 @@ pub mod mobility {
     /// The number of columns.
     pub const COLUMNS: usize = 100;
     /// The cells of work room that a fit needs.
-    pub const WORKSPACE: usize = 20_200;
+    pub const WORKSPACE: usize = 15_250;
 
     /// Fits the model to the mobilities of the training rows.
     ///

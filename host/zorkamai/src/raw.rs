@@ -131,7 +131,7 @@ functions! {
         max_rt_exact: &mut [bool], slope_exact: &mut [bool], intercept_exact: &mut [bool], aligned: &mut [f32],
     ) -> u8 = zorkamai_align;
 
-    /// Fits the retention model to the aligned times of the training rows. Needs 9,660 cells of `workspace` and 69
+    /// Fits the retention model to the aligned times of the training rows. Needs 7,314 cells of `workspace` and 69
     /// of `beta`, the coefficients, which are written only if the number is 0.
     pub fn retention_fit(
         peptide: &[u32], label: &[i32], q: &[f32], aligned: &[f32],
@@ -147,7 +147,7 @@ functions! {
         workspace: &mut [f64], beta: &mut [f64], predicted: &mut [f32], error: &mut [f32],
     ) -> Answer = zorkamai_retention_predict;
 
-    /// Fits the mobility model to the mobilities of the training rows. Needs 20,200 cells of `workspace` and 100 of
+    /// Fits the mobility model to the mobilities of the training rows. Needs 15,250 cells of `workspace` and 100 of
     /// `beta`, the coefficients, which are written only if the number is 0.
     pub fn mobility_fit(
         peptide: &[u32], label: &[i32], q: &[f32], charge: &[u8], mobility: &[f32],
@@ -164,7 +164,7 @@ functions! {
     ) -> Answer = zorkamai_mobility_predict;
 
     /// The alignment, both fits on it, and the predictions and errors of each model that fits. Needs of `workspace` the
-    /// larger of peptides × files and 20,200 cells, one cell for each file of the seven columns from `max_rt` to
+    /// larger of peptides × files and 15,250 cells, one cell for each file of the seven columns from `max_rt` to
     /// `intercept_exact`, 69 and 100 of the coefficients, and one for each row of the others.
     pub fn run(
         file: &[u32], peptide: &[u32], label: &[i32], q: &[f32], rt: &[f32], charge: &[u8], mobility: &[f32],

@@ -1,4 +1,4 @@
--- `regression::add_row` meets its contract: the equations' part is lent to `add_to_rows`, and comes back.
+-- `regression::add_row` meets its contract: the stored part is lent to `add_to_rows`, and comes back.
 use mathlib.Core.Path.{_≡_, ap, _∙_}
 use mathlib.Core.List.{List}
 use Prim.Native.Nat.{ℕ, _+_, _-_}
@@ -7,8 +7,8 @@ use lib.Ieee.{Float}
 use lib.ListN.{length, take, drop}
 use denote.Ref.{now}
 use borrow.Author.Needs.{needs}
-use Rattle.matrix.specs.Rows.{rowsOf}
-use Rattle.regression.specs.Workspace.{systemLength, equations}
+use Rattle.regression.specs.Falling.{fallingRows}
+use Rattle.regression.specs.Workspace.{systemLength, stored}
 use Rattle.regression.proofs.Workspace.{part-is, part-length, part-back}
 use Rattle.regression.proofs.add_row.Statement.{statement}
 use Rattle.regression.proofs.add_row.Tie as tie
@@ -21,15 +21,15 @@ module _ (o : tie.After-system-length) where
   abbrev ws : List Float
   ws = now (s .args .workspace)
 
-  abbrev half : ℕ
-  half = o .system-length .result
+  abbrev split : ℕ
+  split = o .system-length .result
 
-  -- the equations' part and its width
-  part : take (length ws - half) (drop half ws) ≡ drop (systemLength (s .args .d)) ws
-  part = part-is (s .args .d) half ws (s .pre .0 .count) (o .system-length .ensures)
+  -- the stored part and its rows
+  part : take (length ws - split) (drop split ws) ≡ drop (systemLength (s .args .d)) ws
+  part = part-is (s .args .d) split ws (s .pre .0 .count) (o .system-length .ensures)
 
   rows : (w : ℕ) → w ≡ s .args .d + 1
-      → rowsOf w (w - 1) (take (length ws - half) (drop half ws)) ≡ equations (s .args .d) ws
+      → fallingRows w (w - 1) (take (length ws - split) (drop split ws)) ≡ stored (s .args .d) ws
   rows w e = let n : w - 1 ≡ s .args .d = omega arith in rw (n, e, part)
 
 system-length-requires : tie.Need-system-length-requires
@@ -51,7 +51,7 @@ add-to-rows-requires : tie.Need-add-to-rows-requires
 add-to-rows-requires c κs =
     let o = c .before in
     let d = s o .args .d in
-    let e = ap length (part o) ∙ part-length d (half o) (ws o) (s o .pre .0 .count) (o .system-length .ensures) in
+    let e = ap length (part o) ∙ part-length d (split o) (ws o) (s o .pre .0 .count) (o .system-length .ensures) in
     let w = s o .pre .1 in
     let n : length (now (s o .args .ext)) - 1 ≡ d = omega arith in
     rw (n, w) (e ∙ omega arith)
@@ -64,7 +64,7 @@ returns c =
     let o = c .before .before .before .before in
     let a = s o .args in
     let e = rows o (length (now (a .ext))) (s o .pre .1) in
-    part-back (a .d) (half o) (ws o) (s o .pre .0 .count) (o .system-length .ensures) _ _
+    part-back (a .d) (split o) (ws o) (s o .pre .0 .count) (o .system-length .ensures) _ _ (s o .pre .1)
     (rw e at (c .before .before .add-to-rows .ensures))
 
 pub add-row-spec : {M : Type 1} → statement M

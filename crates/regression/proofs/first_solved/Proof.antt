@@ -3,7 +3,7 @@
 use mathlib.Core.Path.{_≡_, refl, sym, _∙_, ap}
 use mathlib.Core.Bool.{Bool, true, false}
 use mathlib.Core.List.{List}
-use Prim.Native.Nat.{ℕ, _+_}
+use Prim.Native.Nat.{ℕ, _+_, _≤_}
 use native.Mathlib.Nat.{mul-one}
 use native.Mathlib.Omega.{arith}
 use lib.ListN.{length, take, drop, length-take}
@@ -13,16 +13,19 @@ use Rattle.matrix.specs.Rows.{rowsOf}
 use Rattle.float.specs.Number.{one64, tiny64}
 use Rattle.elimination.specs.Elimination.{eliminate}
 use Rattle.elimination.specs.Ridge.{ten64, ridges, ridgesFrom, firstSolved, solved, unsolved, rightSide}
+use Rattle.regression.specs.Falling.{fallingRows}
+use Rattle.regression.specs.Triangle.{unfolded}
 use Rattle.regression.specs.Workspace.{systemLength, equations}
 use Rattle.regression.specs.Solve.{Attempted, Found, solutionIn}
 use Rattle.regression.specs.declared.FirstRidge.the-variants.{Solves}
 use Rattle.elimination.proofs.Ridges.{Within, within-first, within-next, fewer, solves-here, solves-later, none-solves}
+use Rattle.regression.proofs.Workspace.{two-parts}
 use borrow.Author.Needs.{needs}
 use Rattle.regression.proofs.first_solved.Statement.{statement}
 use Rattle.regression.proofs.first_solved.Tie as tie
 
 abbrev Inv-loop : tie.InvT-loop
-Inv-loop workspace₀ d beta₀ half eps₀ workspace beta eps =
+Inv-loop workspace₀ d beta₀ split eps₀ workspace beta eps =
     (length workspace ≡ length workspace₀)
     × (drop (systemLength d) workspace ≡ drop (systemLength d) workspace₀)
     × (beta ≡ beta₀)
@@ -31,18 +34,18 @@ Inv-loop workspace₀ d beta₀ half eps₀ workspace beta eps =
     (firstSolved d (equations d workspace₀) (ridgesFrom 16 eps) ≡ firstSolved d (equations d workspace₀) ridges)
 
 abbrev μ-loop : tie.MeasureT-loop
-μ-loop workspace₀ d beta₀ half eps₀ workspace beta eps = length (ridgesFrom 16 eps)
+μ-loop workspace₀ d beta₀ split eps₀ workspace beta eps = length (ridgesFrom 16 eps)
 
 -- a try with the ridge eps
-module _ (d : ℕ) (ws₀ ws ws₁ beta₀ beta : List Float) (eps : Float) (half : ℕ)
-    (inv : Inv-loop ws₀ d beta₀ half tiny64 ws beta eps) (small : le eps one64 ≡ true)
+module _ (d : ℕ) (ws₀ ws ws₁ beta₀ beta : List Float) (eps : Float) (split : ℕ)
+    (inv : Inv-loop ws₀ d beta₀ split tiny64 ws beta eps) (small : le eps one64 ≡ true)
     (r : Bool) (tried : Attempted d eps ws ws₁ r) where
   rows : equations d ws ≡ equations d ws₀
-  rows = ap (rowsOf (d + 1) d) (inv .1)
+  rows = ap (λ (t : List Float). unfolded d (fallingRows (d + 1) d t)) (inv .1)
 
   -- it solved the system
-  found : (beta₁ : List Float) → half ≡ systemLength d → r ≡ true
-      → beta₁ ≡ rightSide d (rowsOf (d + 1) d (take half ws₁))
+  found : (beta₁ : List Float) → split ≡ systemLength d → r ≡ true
+      → beta₁ ≡ rightSide d (rowsOf (d + 1) d (take split ws₁))
       → Found (solutionIn d ws₀) beta₀ beta₁ (Solves eps)
   found beta₁ h t copied =
       let right : beta₁ ≡ rightSide d (eliminate d eps (equations d ws₀)) =
@@ -53,7 +56,7 @@ module _ (d : ℕ) (ws₀ ws ws₁ beta₀ beta : List Float) (eps : Float) (hal
 
   -- it did not
   goes-on : length ws₁ ≡ length ws → r ≡ false
-      → Inv-loop ws₀ d beta₀ half tiny64 ws₁ beta (mul binary64 eps ten64)
+      → Inv-loop ws₀ d beta₀ split tiny64 ws₁ beta (mul binary64 eps ten64)
   goes-on len t = (
     len ∙ inv .0,
     tried .rest ∙ inv .1,
@@ -62,16 +65,16 @@ module _ (d : ℕ) (ws₀ ws ws₁ beta₀ beta : List Float) (eps : Float) (hal
     sym (solves-later d (equations d ws₀) eps (inv .3) small (rw rows at (sym (tried .answer) ∙ t))) ∙ inv .4,
   )
 
--- where the function begins, and half of the workspace
+-- where the function begins, and where the stored rows do
 module _ (at : tie.At-loop Inv-loop μ-loop) where
   abbrev s : tie.Start Inv-loop μ-loop
   s = at .before .before .before .before
 
-  abbrev half : ℕ
-  half = at .before .system-length .result
+  abbrev split : ℕ
+  split = at .before .system-length .result
 
-  half-is : half ≡ systemLength (s .args .d)
-  half-is = at .before .system-length .ensures
+  split-is : split ≡ systemLength (s .args .d)
+  split-is = at .before .system-length .ensures
 
 -- a try was made
 module _ (e : tie.After-attempt Inv-loop μ-loop) where
@@ -84,10 +87,10 @@ module _ (e : tie.After-attempt Inv-loop μ-loop) where
   abbrev cells : List Float
   cells = e .attempt .last .0
 
-  long : length cells ≡ half at + half at
+  long : split at ≤ length cells
   long =
       let n : length cells ≡ length (now (s at .args .workspace)) = e .attempt .kept .0 ∙ at .loop .inv .0 in
-      omega (arith, n, half-is at, s at .pre .0 .count)
+      omega (arith, n, split-is at, s at .pre .0 .count, two-parts (s at .args .d))
 
 system-length-requires : tie.Need-system-length-requires Inv-loop μ-loop
 system-length-requires c κs = search needs
@@ -112,7 +115,7 @@ right-side-requires : tie.Need-right-side-requires Inv-loop μ-loop
 right-side-requires c κs =
     let e = c .before .before .before .before .before in (
       ap length (at e .loop .inv .2) ∙ s (at e) .pre .1 ∙ sym (mul-one _),
-      simp length-take (omega (arith, long e, half-is (at e))),
+      simp length-take (omega (arith, long e, split-is (at e))),
     )
 
 same-length : tie.Need-same-length Inv-loop μ-loop
@@ -130,8 +133,8 @@ returns c =
     let e = c .before .before .before .before .before .before .before .before in
     let a = s (at e) .args in
     let l = at e .loop in
-    found (a .d) (now (a .workspace)) (l .workspace) (cells e) (now (a .beta)) (l .beta) (l .eps) (half (at e)) (l .inv)
-    (turn e .loop-test .taken) (e .attempt .result) (e .attempt .ensures) (right .last .0) (half-is (at e))
+    found (a .d) (now (a .workspace)) (l .workspace) (cells e) (now (a .beta)) (l .beta) (l .eps) (split (at e))
+    (l .inv) (turn e .loop-test .taken) (e .attempt .result) (e .attempt .ensures) (right .last .0) (split-is (at e))
     (c .before .before .before .before .before .if1 .taken) (right .ensures)
 
 loop-less : tie.Need-loop-less Inv-loop μ-loop
@@ -146,7 +149,7 @@ loop-again c =
     let e = c .before .before .before in
     let a = s (at e) .args in
     let l = at e .loop in
-    goes-on (a .d) (now (a .workspace)) (l .workspace) (cells e) (now (a .beta)) (l .beta) (l .eps) (half (at e))
+    goes-on (a .d) (now (a .workspace)) (l .workspace) (cells e) (now (a .beta)) (l .beta) (l .eps) (split (at e))
     (l .inv) (turn e .loop-test .taken) (e .attempt .result) (e .attempt .ensures) (e .attempt .kept .0) (c .if1 .left)
 
 same-length-3 : tie.Need-same-length-3 Inv-loop μ-loop

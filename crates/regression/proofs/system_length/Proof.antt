@@ -1,19 +1,33 @@
--- `regression::system_length` meets its contract: at most 100 rows of 101 cells fit a number.
-use Prim.Native.Nat.{_+_}
+-- `regression::system_length` meets its contract: at most 100 rows of 101 cells fit 32 bits.
+use Prim.Native.Nat.{_+_, _*_, _≤_}
 use native.Mathlib.Nat.{mul-le-mul-right}
 use native.Mathlib.Omega.{arith}
 use borrow.Author.Needs.{needs}
+use Rattle.status.specs.Limits.{maxOrder}
 use Rattle.regression.proofs.system_length.Statement.{statement}
 use Rattle.regression.proofs.system_length.Tie as tie
+
+few : (s : tie.Start) → s .args .d * (s .args .d + 1) ≤ maxOrder * (s .args .d + 1)
+few s = mul-le-mul-right {m = s .args .d} {n = maxOrder} (s .args .d + 1) (s .pre)
+
+cast-result : tie.Need-cast-result
+cast-result c = search needs
+
+cast-result-2 : tie.Need-cast-result-2
+cast-result-2 c = search needs
 
 add-result : tie.Need-add-result
 add-result c = search needs
 
 mul-result : tie.Need-mul-result
-mul-result c = let d = c .args .d in omega (arith, mul-le-mul-right {m = d} {n = 100} (d + 1) (c .pre))
+mul-result c = omega (arith, few c)
+
+cast-result-3 : tie.Need-cast-result-3
+cast-result-3 c = omega (arith, few c)
 
 returns : tie.Need-returns
 returns c = search needs
 
 pub system-length-spec : {M : Type 1} → statement M
-system-length-spec = tie.close (tie.spec add-result mul-result returns)
+system-length-spec =
+    tie.close (tie.spec cast-result cast-result-2 add-result mul-result cast-result-3 returns)

@@ -12,7 +12,7 @@ array-borrow-prefix-workspace : tie.Need-array-borrow-prefix-workspace
 array-borrow-prefix-workspace c = search needs
 
 slice-aggregate-call-2 : tie.Need-slice-aggregate-call-2
-slice-aggregate-call-2 c = part _ 20300 _ (omega arith)
+slice-aggregate-call-2 c = part _ 15350 _ (omega arith)
 
 array-borrow-prefix-beta : tie.Need-array-borrow-prefix-beta
 array-borrow-prefix-beta c = search needs

@@ -1,7 +1,7 @@
--- `model_fit::training::accumulate` meets its contract. The loop's invariant: the workspace, with a row that may be
--- held back, and the sums are those of the training rows among the first i.
-use mathlib.Core.Path.{_≡_, refl, sym, ap, _∙_, subst}
-use mathlib.Core.Bool.{Bool, true, false, not}
+-- `model_fit::training::accumulate` meets its contract. The loop's invariant: the equations in the workspace and
+-- the sums are those of the training rows among the first i.
+use mathlib.Core.Path.{_≡_, refl, sym, ap, _∙_}
+use mathlib.Core.Bool.{true, false}
 use mathlib.Core.List.{List, [], _∷_, _++_}
 use Prim.Native.Nat.{ℕ, _+_, _-_, _≤_, _<_}
 use native.Mathlib.Omega.{arith}
@@ -17,15 +17,15 @@ use Rattle.feature.specs.Feature.{trains, kept}
 use Rattle.peptide.specs.Table.{Table}
 use Rattle.embedding.specs.Design.{orderOf, design}
 use Rattle.embedding.specs.declared.Model.{Model}
-use Rattle.regression.specs.Regression.{Sample, normal, sumsOf, plusTarget}
-use Rattle.regression.specs.Workspace.{Workspace, holding}
+use Rattle.regression.specs.Regression.{Sample, extended, normal, addRow, sumsOf, plusTarget}
+use Rattle.regression.specs.Workspace.{Workspace, equations, withEquations, holding}
 use Rattle.regression.specs.declared.Sums.{Sums}
 use Rattle.regression.proofs.Laws.{sums-nil, sums-snoc}
-use Rattle.regression.proofs.Workspace.{length-holding}
+use Rattle.regression.proofs.Workspace.{length-holding, add-row-holds}
 use Rattle.model_fit.specs.Input.{Input, inputOf, inputAt}
 use Rattle.model_fit.specs.Samples.{sampleFrom}
-use Rattle.model_fit.specs.Shared.{Listed, Checked, Summed}
-use Rattle.model_fit.proofs.Rows.{order-max, looked-short, looked-up}
+use Rattle.model_fit.specs.Shared.{Listed, Checked}
+use Rattle.model_fit.proofs.Rows.{order-max, wide-design, looked-short, looked-up}
 use Rattle.model_fit.proofs.Rows.{seen, sampleAt, seen-trains, seen-outside, seen-all, seen-few}
 use Rattle.model_fit.proofs.Status.{listed}
 use Rattle.model_fit.proofs.training.accumulate.Statement.{statement}
@@ -33,18 +33,16 @@ use Rattle.model_fit.proofs.training.accumulate.Tie as tie
 
 abbrev Inv-loop : tie.InvT-loop
 Inv-loop model peptide label q charge observed letters offsets masses logs
-    workspace₀ first₀ second₀ held₀ sums₀ i₀ i-end workspace first second held sums i =
+    workspace₀ row₀ sums₀ i₀ i-end workspace row sums i =
     let input : Input = inputOf peptide label q charge observed letters offsets masses logs in
     (i ≤ length peptide)
-    × Summed (orderOf model) held first workspace (seen model input i)
+    × (workspace ≡ holding (orderOf model) (normal (orderOf model) (seen model input i)))
     × (sums ≡ sumsOf (seen model input i))
-    × (length workspace ≡ length workspace₀)
-    × (length first ≡ maxOrder + 1)
-    × (length second ≡ maxOrder + 1)
+    × (length row ≡ maxOrder + 1)
 
 abbrev μ-loop : tie.MeasureT-loop
 μ-loop model peptide label q charge observed letters offsets masses logs
-    workspace₀ first₀ second₀ held₀ sums₀ i₀ i-end workspace first second held sums i =
+    workspace₀ row₀ sums₀ i₀ i-end workspace row sums i =
     length peptide - i
 
 -- where the function begins, and what it was passed
@@ -57,11 +55,14 @@ passed s =
     inputAt (a .peptide) (a .label) (a .q) (a .charge) (a .observed) (a .letters) (a .offsets) (a .masses) (a .logs)
 
 -- the workspace keeps its length
-still : (s : tie.Start Inv-loop μ-loop) (cells : List Float) → length cells ≡ length (now (s .args .workspace))
-    → Workspace (orderOf (s .args .model)) cells
-still s cells e =
-    let D : ℕ = orderOf (s .args .model) in
-    record { order = order-max (s .args .model); count = e ∙ ap length (s .pre .1) ∙ length-holding D [] }
+still : (at : tie.At-loop Inv-loop μ-loop) → Workspace (orderOf (start at .args .model)) (at .loop .workspace)
+still at =
+    let model = start at .args .model in
+    record {
+      order = order-max model;
+      count = ap length (at .loop .inv .1)
+          ∙ length-holding (orderOf model) (seen model (passed (start at)) (at .loop .i));
+    }
 
 -- a turn's row is one of the rows
 inside : (t : tie.In-loop Inv-loop μ-loop) → t .before .loop .i < length (now (start (t .before) .args .peptide))
@@ -116,22 +117,27 @@ module _ (m : tie.After-mass-at Inv-loop μ-loop) where
 
 -- the place of a looked-up peptide, as the sample that is added sees it
 abbrev looked : tie.After-add-sample-arg Inv-loop μ-loop → tie.After-mass-at Inv-loop μ-loop
-looked d = d .before .before .before
+looked d = d .before .before
 
 -- one training row more
-one-more : (model : Model) (i : Input) (k : ℕ) (x : Sample) (held : Bool) (row cells : List Float) (before after : Sums)
+one-more : (model : Model) (i : Input) (k : ℕ) (x : Sample) (cells cells₁ : List Float) (before after : Sums)
     → Checked i
     → k < length (i .peptides)
     → trains (getD (i .labels) k (pos 0)) (getD (i .qs) k nan) ≡ true
     → x ≡ sampleAt model i k
-    → Summed (orderOf model) held row cells (seen model i k ++ x ∷ [])
+    → let D = orderOf model in
+    cells ≡ holding D (normal D (seen model i k))
+    → cells₁ ≡ withEquations D (addRow (equations D cells) (extended x)) cells
     → before ≡ sumsOf (seen model i k)
     → after ≡ plusTarget before (x .y)
-    → Summed (orderOf model) held row cells (seen model i (k + 1)) × (after ≡ sumsOf (seen model i (k + 1)))
-one-more model i k x held row cells before after checked h t ex e eb ea =
+    → (cells₁ ≡ holding D (normal D (seen model i (k + 1)))) × (after ≡ sumsOf (seen model i (k + 1)))
+one-more model i k x cells cells₁ before after checked h t ex holds e eb ea =
+    let D : ℕ = orderOf model in
     let ss : List Sample = seen model i k in
+    let wide : length (x .row) ≡ D = ap (λ (s : Sample). length (s .row)) ex ∙ wide-design model _ _ _ _ in
     let n : seen model i (k + 1) ≡ ss ++ x ∷ [] = rw (add-one k, ex) (seen-trains model i checked k h t) in (
-      subst (Summed (orderOf model) held row cells) (sym n) e,
+      add-row-holds D ss cells cells₁ holds x (extended x) wide refl e
+          ∙ ap (λ (t : List Sample). holding D (normal D t)) (sym n),
       ea ∙ ap (λ (v : Sums). plusTarget v (x .y)) eb ∙ sym (sums-snoc ss x) ∙ ap sumsOf (sym n),
     )
 
@@ -142,7 +148,7 @@ loop-holds : tie.Need-loop-holds Inv-loop μ-loop
 unfolding kept
 loop-holds c =
     let s = c .before .before .before .before .before .before .before .before .before .before in
-    (search needs, s .pre .1, c .zero .ensures ∙ sym sums-nil, refl, refl, refl)
+    (search needs, s .pre .1, c .zero .ensures ∙ sym sums-nil, refl)
 
 trains-at-requires : tie.Need-trains-at-requires Inv-loop μ-loop
 trains-at-requires c κs =
@@ -167,11 +173,9 @@ loop-again c =
     let n : seen model i (l .i + 1) ≡ seen model i (l .i) =
     rw (add-one (l .i)) (seen-outside model i (s .pre .0) (l .i) (inside (c .before .before)) t) in (
       omega arith,
-      subst (Summed (orderOf model) (l .held) (l .first) (l .workspace)) (sym n) (l .inv .1),
+      l .inv .1 ∙ ap (λ (t : List Sample). holding (orderOf model) (normal (orderOf model) t)) (sym n),
       l .inv .2 ∙ ap sumsOf (sym n),
       l .inv .3,
-      l .inv .4,
-      l .inv .5,
     )
 
 mul-widen : tie.Need-mul-widen Inv-loop μ-loop
@@ -202,21 +206,17 @@ mass-at-requires : tie.Need-mass-at-requires Inv-loop μ-loop
 mass-at-requires c κs = has (c .before .before .before .before .before .before .before .before) .weighed
 
 slice-aggregate-add-sample : tie.Need-slice-aggregate-add-sample Inv-loop μ-loop
-slice-aggregate-add-sample c = sym (turn (c .before) .before .loop .inv .4)
-
-slice-aggregate-add-sample-2 : tie.Need-slice-aggregate-add-sample-2 Inv-loop μ-loop
-slice-aggregate-add-sample-2 c = sym (turn (c .before .before) .before .loop .inv .5)
+slice-aggregate-add-sample c = sym (turn (c .before) .before .loop .inv .3)
 
 add-sample-requires : tie.Need-add-sample-requires Inv-loop μ-loop
 add-sample-requires c κs =
     let m = looked c in
     let l = turn m .before .loop in
-    let d = order-max (s m .args .model) in
-    (short m, ((omega (arith, d, l .inv .4), omega (arith, d, l .inv .5)), still (s m) (l .workspace) (l .inv .3)))
+    (short m, (omega (arith, order-max (s m .args .model), l .inv .3), still (turn m .before)))
 
 add-requires : tie.Need-add-requires Inv-loop μ-loop
 add-requires c κs =
-    let m = looked (c .before .before .before .before .before) in
+    let m = looked (c .before .before .before .before) in
     let l = turn m .before .loop in
     let model = s m .args .model in
     let i = passed (s m) in
@@ -225,54 +225,43 @@ add-requires c κs =
 
 add-i-2 : tie.Need-add-i-2 Inv-loop μ-loop
 add-i-2 c =
-    let m = looked (c .before .before .before .before .before .before) in
+    let m = looked (c .before .before .before .before .before) in
     omega (arith, inside (turn m), s m .pre .0 .rows-max)
 
 loop-less-2 : tie.Need-loop-less-2 Inv-loop μ-loop
-loop-less-2 c = omega (arith, inside (turn (looked (c .before .before .before .before .before .before))))
+loop-less-2 c = omega (arith, inside (turn (looked (c .before .before .before .before .before))))
 
 loop-again-2 : tie.Need-loop-again-2 Inv-loop μ-loop
 loop-again-2 c =
-    let added = c .before .before .before .before .before in
+    let added = c .before .before .before .before in
     let m = looked (added .before) in
     let l = turn m .before .loop in
     let model = s m .args .model in
     let i : Input = passed (s m) in
-    let kept = added .add-sample .kept .1 .1 .1 .1 .1 .1 .1 in
     let step =
-    one-more model i (k m) _ (not (l .held)) _ _ (l .sums) (c .add .result) (s m .pre .0) (inside (turn m))
-    (trained m) (sample-is m) (added .add-sample .ensures (seen model i (k m)) (l .inv .1)) (l .inv .2)
-    (c .add .ensures) in (
+    one-more model i (k m) _ (l .workspace) _ (l .sums) (c .add .result) (s m .pre .0) (inside (turn m))
+    (trained m) (sample-is m) (l .inv .1) (added .add-sample .ensures) (l .inv .2) (c .add .ensures) in (
       omega (arith, inside (turn m)),
       step .0,
       step .1,
-      kept .1 .1 .0 ∙ l .inv .3,
-      kept .0 ∙ l .inv .4,
-      kept .1 .0 ∙ l .inv .5,
+      added .add-sample .kept .1 .1 .1 .1 .1 .1 .0 ∙ l .inv .3,
     )
 
-slice-aggregate-add-held : tie.Need-slice-aggregate-add-held Inv-loop μ-loop
-slice-aggregate-add-held c = sym (c .before .before .loop .inv .4)
-
-add-held-requires : tie.Need-add-held-requires Inv-loop μ-loop
-add-held-requires c κs =
-    let at = c .before .before .before in
-    let l = at .loop in
-    let s = start at in
-    (omega (arith, order-max (s .args .model), l .inv .4), still s (l .workspace) (l .inv .3))
-
 same-length : tie.Need-same-length Inv-loop μ-loop
-same-length c = search needs
+same-length c =
+    let at = c .before in
+    let model = start at .args .model in
+    still at .count ∙ sym (ap length (start at .pre .1) ∙ length-holding (orderOf model) [])
 
 returns : tie.Need-returns Inv-loop μ-loop
 returns c =
-    let at = c .before .before .before .before .before .before in
+    let at = c .before in
     let l = at .loop in
     let s = start at in
     let model = s .args .model in
     let n = seen-all model (passed s) (s .pre .0) (l .i) (omega arith) in
     record {
-      holds = c .before .before .add-held .ensures (seen model (passed s) (l .i)) (l .inv .1)
+      holds = l .inv .1
           ∙ ap (λ (x : List Sample). holding (orderOf model) (normal (orderOf model) x)) n;
       sums = l .inv .2 ∙ ap sumsOf n;
     }
@@ -299,13 +288,10 @@ accumulate-spec =
     log-at-requires
     mass-at-requires
     slice-aggregate-add-sample
-    slice-aggregate-add-sample-2
     add-sample-requires
     add-requires
     add-i-2
     loop-less-2
     loop-again-2
-    slice-aggregate-add-held
-    add-held-requires
     same-length
     returns)

@@ -9,7 +9,7 @@ array-borrow-prefix-workspace : tie.Need-array-borrow-prefix-workspace
 array-borrow-prefix-workspace c = search needs
 
 slice-aggregate-global-alignment : tie.Need-slice-aggregate-global-alignment
-slice-aggregate-global-alignment c = part _ 20300 _ (omega arith)
+slice-aggregate-global-alignment c = part _ 15350 _ (omega arith)
 
 slice-aggregate-global-alignment-2 : tie.Need-slice-aggregate-global-alignment-2
 slice-aggregate-global-alignment-2 c = search needs

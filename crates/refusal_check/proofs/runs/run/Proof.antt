@@ -27,7 +27,7 @@ array-borrow-prefix-workspace : tie.Need-array-borrow-prefix-workspace
 array-borrow-prefix-workspace c = search needs
 
 slice-aggregate-run-7 : tie.Need-slice-aggregate-run-7
-slice-aggregate-run-7 c = part _ 20300 _ (omega arith)
+slice-aggregate-run-7 c = part _ 15350 _ (omega arith)
 
 slice-aggregate-run-8 : tie.Need-slice-aggregate-run-8
 slice-aggregate-run-8 c = search needs

@@ -9,7 +9,7 @@ array-borrow-prefix-workspace : tie.Need-array-borrow-prefix-workspace
 array-borrow-prefix-workspace c = search needs
 
 slice-aggregate-solve : tie.Need-slice-aggregate-solve
-slice-aggregate-solve c = part _ 20300 _ (omega arith)
+slice-aggregate-solve c = part _ 15350 _ (omega arith)
 
 array-borrow-prefix-solution : tie.Need-array-borrow-prefix-solution
 array-borrow-prefix-solution c = search needs
