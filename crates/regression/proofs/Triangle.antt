@@ -17,7 +17,7 @@ use Rattle.matrix.specs.Lists.{tabulate, zipped}
 use Rattle.matrix.proofs.Laws.{Wide}
 use Rattle.matrix.proofs.Lists.{length-tabulate, getD-tabulate, tabulate-same, tabulate-snoc, tabulate-cells}
 use Rattle.matrix.proofs.Lists.{drop-tabulate, tabulate-constant, wide-tabulate, zipped-tabulate}
-use Rattle.matrix.proofs.Lists.{getD-zipped, drop-zipped}
+use Rattle.matrix.proofs.Lists.{length-zipped, getD-zipped, drop-zipped}
 use Rattle.elimination.proofs.Made.{made}
 use Rattle.regression.specs.Regression.{Sample, total, column, cov, rhs, normal, plusScaled, addRow}
 use Rattle.regression.specs.Falling.{fallingRows, fallingStart}
@@ -146,6 +146,20 @@ made-add (suc j) (row ∷ rows) (x ∷ ext) l h =
     ap (λ (t : List (List Float)). zipped (plusScaled x) row (x ∷ ext) ∷ t)
     (made-add j rows ext (le-of-suc-le-suc l) (le-of-suc-le-suc h))
 
+-- the rows keep their lengths
+length-add : (rows : List (List Float)) (ext : List Float) → length (addTriangle rows ext) ≡ length rows
+unfolding addTriangle
+length-add [] ext = refl
+length-add (row ∷ rows) [] = refl
+length-add (row ∷ rows) (x ∷ ext) = ap suc (length-add rows ext)
+
+falling-add : (w : ℕ) (rows : List (List Float)) (ext : List Float) → Falling w rows → Falling w (addTriangle rows ext)
+unfolding addTriangle
+falling-add w [] ext f = tt
+falling-add w (row ∷ rows) [] f = f
+falling-add w (row ∷ rows) (x ∷ ext) f =
+    (length-zipped (plusScaled x) row (x ∷ ext) ∙ f .0, falling-add (w - 1) rows ext (f .1))
+
 -- any rows that are stored, each from its diagonal on
 module _ (D : ℕ) (rows : List (List Float)) (count : length rows ≡ D) (shape : Falling (D + 1) rows) where
   row-long : (j : ℕ) → j < D → length (getD rows j []) ≡ D + 1 - j
@@ -232,6 +246,12 @@ module _ (D : ℕ) (rows : List (List Float)) (count : length rows ≡ D) (shape
               ap (λ (n : ℕ). plusScaled (getD ext n nan) (mirrored rows j k) (getD ext (i + c) nan)) a
               ∙ ap (λ (n : ℕ). plusScaled (getD ext k nan) (mirrored rows j k) (getD ext n nan)) b
               ∙ ap (add binary64 (mirrored rows j k)) (mul-commutes binary64 (getD ext k nan) (getD ext j nan))
+
+    -- in one list, the rows with the sample added are found again
+    pub rows-of-add : fallingRows (D + 1) D (flat (addTriangle rows ext)) ≡ addTriangle rows ext
+    rows-of-add =
+        ap (λ (n : ℕ). fallingRows (D + 1) n (flat (addTriangle rows ext))) (sym (length-add rows ext ∙ count))
+        ∙ falling-flat (D + 1) (addTriangle rows ext) (falling-add (D + 1) rows ext shape)
 
     -- the full rows with a sample added, and the stored rows with it added, unfolded: the same, whatever was stored
     pub unfolded-add : unfolded D (addTriangle rows ext) ≡ addRow (unfolded D rows) ext

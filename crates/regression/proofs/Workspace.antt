@@ -25,7 +25,7 @@ use Rattle.regression.specs.declared.FirstRidge.the-variants.{Solves, No
 use Rattle.regression.proofs.Laws.{normal-snoc}
 use Rattle.regression.proofs.Falling.{Falling, falling-rows, length-falling}
 use Rattle.regression.proofs.Triangle.{length-triangle, rows-of-triangle, triangle-nil, cells-triangle}
-use Rattle.regression.proofs.Triangle.{unfolded-triangle, folded-normal, folded-add}
+use Rattle.regression.proofs.Triangle.{unfolded-triangle, unfolded-add, folded-normal, folded-add, rows-of-add}
 
 -- ---- its two parts
 
@@ -70,6 +70,22 @@ module _ (D : ℕ) where
       ap (λ (t : List Float). t ++ flat (folded D rows₁))
       (take-at (take (systemLength D) cells) (flat (folded D rows)) (systemLength D)
       (length-take-le (systemLength D) cells h))
+
+  -- and are found again: after `add_row`, whatever it held before, the full rows have gained the sample
+  pub equations-add : (cells ext : List Float) → length cells ≡ workspaceCells D → length ext ≡ D + 1
+      → equations D (withEquations D (addRow (equations D cells) ext) cells) ≡ addRow (equations D cells) ext
+  unfolding withEquations
+  equations-add cells ext count wide =
+      let rows : List (List Float) = stored D cells in
+      let k : ℕ = systemLength D in
+      let n : length rows ≡ D = length-falling (D + 1) D (drop k cells) in
+      let shape : Falling (D + 1) rows = part-shape D k cells count refl in
+      let front : length (take k cells) ≡ k = length-take-le k cells (omega (arith, two-parts D)) in
+      ap (λ (t : List (List Float)). equations D (take k cells ++ flat t)) (folded-add D rows n shape ext wide)
+      ∙ ap (λ (t : List Float). unfolded D (fallingRows (D + 1) D t))
+      (drop-at (take k cells) (flat (addTriangle rows ext)) k front)
+      ∙ ap (unfolded D) (rows-of-add D rows n shape ext wide)
+      ∙ unfolded-add D rows n shape ext wide
 
   blank-long : systemLength D ≤ length (replicate (workspaceCells D) zero64)
   blank-long = rw length-replicate (omega (arith, two-parts D))
