@@ -2,23 +2,11 @@
 -- zipped, two with the same elements, and one element again and again.
 use mathlib.Core.Path.{_≡_, refl, sym, ap, ap₂, _∙_}
 use mathlib.Core.List.{List, [], _∷_, _++_, map, zip, zipWith, append-assoc, append-nil}
-use Prim.Native.Nat.{ℕ, zero, suc, _+_, _-_, _*_, _≤_, _<_, zero-le, suc-le-suc}
-use native.Mathlib.Nat.{le-of-suc-le-suc, not-suc-le-zero, zero-mul, suc-mul, add-comm}
+use Prim.Native.Nat.{ℕ, zero, suc, _+_, _-_, _≤_, _<_, zero-le, suc-le-suc}
+use native.Mathlib.Nat.{le-of-suc-le-suc, not-suc-le-zero}
 use native.Mathlib.Omega.{arith}
-use lib.ListN.{
-  length,
-  getD,
-  set,
-  take,
-  drop,
-  replicate,
-  take-append-drop,
-  drop-of-length-le,
-  replicate-append-replicate,
-  length-replicate,
-}
+use lib.ListN.{length, getD, set, take, drop, replicate, take-append-drop, drop-of-length-le, length-replicate}
 use lib.Seq.{take-length, length-take-le, drop-append-le}
-use Rattle.matrix.specs.Rows.{flat}
 use Rattle.matrix.specs.Lists.{tabulate, zipped, overwritten}
 use Rattle.matrix.proofs.Laws.{Wide}
 
@@ -281,9 +269,3 @@ module _ {A : Type 0} where
 
   pub length-take-replicate : (n m : ℕ) (a : A) → n ≤ m → length (take n (replicate m a)) ≡ n
   length-take-replicate n m a h = ap length (take-replicate n m a h) ∙ length-replicate n a
-
-  pub flat-replicate : (n w : ℕ) (a : A) → flat (replicate n (replicate w a)) ≡ replicate (n * w) a
-  unfolding flat
-  flat-replicate zero w a = rw zero-mul
-  flat-replicate (suc n) w a =
-      rw (flat-replicate n w a, suc-mul, add-comm (n * w) w) (replicate-append-replicate w (n * w) a)
