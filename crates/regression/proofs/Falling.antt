@@ -1,9 +1,9 @@
--- Laws of rows of falling width, for any cells: where each row starts, a row, a cell, a row written back, the rows of a
--- flat list, and a loop that makes them anew.
+-- Laws of rows of falling width, for any cells: where each row starts and how many cells there are, a row, a cell, a
+-- row written back, the layout for a loop that makes them anew, and the rows of a flat list.
 use mathlib.Core.Path.{_≡_, refl, ap, _∙_}
 use mathlib.Core.List.{List, [], _∷_, _++_}
-use Prim.Native.Nat.{ℕ, zero, suc, _+_, _-_, _≤_, _<_}
-use native.Mathlib.Nat.{le-of-suc-le-suc, not-suc-le-zero}
+use Prim.Native.Nat.{ℕ, zero, suc, _+_, _-_, _*_, _/_, _≤_, _<_}
+use native.Mathlib.Nat.{le-of-suc-le-suc, not-suc-le-zero, suc-mul, mul-suc}
 use native.Mathlib.Omega.{arith}
 use lib.ListN.{length, getD, set, take, drop, replicate, length-append, length-drop, take-append-drop}
 use lib.ListN.{replicate-append-replicate}
@@ -32,6 +32,29 @@ start-le w (suc i) (suc m) h = omega (arith, start-le (w - 1) i m (le-of-suc-le-
 -- a row ends before the rows do
 pub row-ends : (w m i : ℕ) → i < m → fallingStart w i + (w - i) ≤ fallingStart w m
 row-ends w m i h = omega (arith, start-le w (suc i) m h, start-next w i)
+
+-- as many rows as the first has cells: half of w × (w + 1) cells
+twice-falling : (w : ℕ) → 2 * fallingStart w w ≡ w * (w + 1)
+unfolding fallingStart
+twice-falling zero = omega arith
+twice-falling (suc w) =
+    let n : suc w - 1 ≡ w = omega arith in
+    let e : suc w * (suc w + 1) ≡ w * (w + 1) + 2 * w + 2 =
+    suc-mul w (suc w + 1)
+    ∙ ap (λ (x : ℕ). w * x + (suc w + 1)) {x = suc w + 1} {y = suc (w + 1)} (omega arith)
+    ∙ ap (λ (x : ℕ). x + (suc w + 1)) (mul-suc w (w + 1))
+    ∙ omega arith in
+    rw n (omega (arith, twice-falling w, e))
+
+pub half-falling : (w : ℕ) → fallingStart w w ≡ w * (w + 1) / 2
+half-falling w = omega (arith, twice-falling w)
+
+-- each row with a cell more
+pub one-longer : (w n : ℕ) → n ≤ w → fallingStart (w + 1) n ≡ fallingStart w n + n
+unfolding fallingStart
+one-longer w zero h = refl
+one-longer w (suc n) h =
+    omega (arith, start-next (w + 1) n, start-next w n, one-longer w n (omega arith))
 
 module _ {A : Type 0} where
   pub length-falling : (w n : ℕ) (l : List A) → length (fallingRows w n l) ≡ n

@@ -3,7 +3,7 @@
 use mathlib.Core.Path.{_≡_, refl, sym, ap, _∙_}
 use mathlib.Core.List.{List, [], _∷_, _++_}
 use Prim.Native.Nat.{ℕ, zero, suc, _+_, _-_, _*_, _/_, _≤_, _<_, min, max}
-use native.Mathlib.Nat.{le-of-suc-le-suc, not-suc-le-zero, lt-of-not-le, suc-mul, mul-suc}
+use native.Mathlib.Nat.{le-of-suc-le-suc, not-suc-le-zero, lt-of-not-le}
 use native.Mathlib.Decide.{decLe}
 use native.Mathlib.Numerals.{add-one}
 use native.Mathlib.Omega.{arith}
@@ -23,7 +23,7 @@ use Rattle.regression.specs.Regression.{Sample, total, column, cov, rhs,
 use Rattle.regression.specs.Falling.{fallingRows, fallingStart}
 use Rattle.regression.specs.Triangle.{covFrom, covTriangle, triangle, addTriangle, mirrored, unfolded, folded}
 use Rattle.regression.proofs.Falling.{Falling, falling-flat, length-flat-falling, falling-tabulate, falling-row}
-use Rattle.regression.proofs.Falling.{flat-constant, start-next}
+use Rattle.regression.proofs.Falling.{flat-constant, half-falling, one-longer}
 
 -- ---- the rows that are stored
 
@@ -288,34 +288,10 @@ pub length-unfolded : (D : ℕ) (rows : List (List Float)) → length (unfolded 
 unfolding unfolded
 length-unfolded D rows = length-tabulate D _
 
--- rows of which the first has w cells, and as many: half of w × (w + 1)
-twice-falling : (w : ℕ) → 2 * fallingStart w w ≡ w * (w + 1)
-unfolding fallingStart
-twice-falling zero = omega arith
-twice-falling (suc w) =
-    let n : suc w - 1 ≡ w = omega arith in
-    let e : suc w * (suc w + 1) ≡ w * (w + 1) + 2 * w + 2 =
-    suc-mul w (suc w + 1)
-    ∙ ap (λ (x : ℕ). w * x + (suc w + 1)) {x = suc w + 1} {y = suc (w + 1)} (omega arith)
-    ∙ ap (λ (x : ℕ). x + (suc w + 1)) (mul-suc w (w + 1))
-    ∙ omega arith in
-    rw n (omega (arith, twice-falling w, e))
-
-half-falling : (w : ℕ) → fallingStart w w ≡ w * (w + 1) / 2
-half-falling w = omega (arith, twice-falling w)
-
--- and each of them with a cell more
-one-longer : (w n : ℕ) → n ≤ w → fallingStart (w + 1) n ≡ fallingStart w n + n
-unfolding fallingStart
-one-longer w zero h = refl
-one-longer w (suc n) h =
-    omega (arith, start-next (w + 1) n, start-next w n, one-longer w n (omega arith))
-
--- those that are stored
+-- those that are stored, and of them those of cov: 5,050 for order 100, in rows of D, D - 1, .., 1
 pub cells-triangle : (D : ℕ) → fallingStart (D + 1) D ≡ D * (D + 1) / 2 + D
 cells-triangle D = omega (arith, one-longer D D (omega arith), half-falling D)
 
--- and of them those of cov: 5,050 for order 100, in rows of D, D - 1, .., 1
 module _ (D : ℕ) (ss : List Sample) where
   falling-cov : Falling D (covTriangle D ss)
   unfolding covTriangle
