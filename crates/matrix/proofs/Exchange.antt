@@ -2,7 +2,7 @@
 use mathlib.Core.Path.{_≡_, refl, sym, ap, _∙_}
 use mathlib.Core.Logic.{_≢_}
 use mathlib.Core.List.{List, [], _∷_, _++_, append-nil}
-use Prim.Native.Nat.{ℕ, zero, suc, _≤_, _<_}
+use Prim.Native.Nat.{ℕ, zero, suc, _+_, _*_, _≤_, _<_}
 use native.Mathlib.Nat.{le-of-suc-le-suc, not-suc-le-zero}
 use native.Mathlib.Decide.{ℕ-discrete}
 use native.Mathlib.Omega.{arith}
@@ -94,13 +94,12 @@ module _ {A : Type 0} where
           (mix k (getD rows i []) (getD rows j [])) d f hi hj
           ∙ rw (more (getD rows j []) (getD rows i []) lj li, more (getD rows i []) (getD rows j []) li lj)
 
-  -- the same by two stores in the flat list
-  pub swap-suc : (cols n k i j : ℕ) (l : List A) (rows : List (List A)) (d : A)
+  swap-places : (cols n k i j : ℕ) (l : List A) (rows : List (List A)) (d : A)
       → rowsOf cols n l ≡ exchanged k i j rows → Wide cols rows → length rows ≡ n → i < n → j < n
       → k < cols
       → rowsOf cols n (set (set l (placeOf cols i k) (getD l (placeOf cols j k) d)) (placeOf cols j k) (getD l (placeOf cols i k) d))
       ≡ exchanged (suc k) i j rows
-  swap-suc cols n k i j l rows d e w m hi hj hk =
+  swap-places cols n k i j l rows d e w m hi hj hk =
       let v : A = getD l (placeOf cols j k) d in
       let t : A = getD l (placeOf cols i k) d in
       let val : v ≡ getD (getD (exchanged k i j rows) j []) k d =
@@ -114,3 +113,11 @@ module _ {A : Type 0} where
       (λ (x : A). setCell j k (getD (getD (exchanged k i j rows) i []) k d) (setCell i k x (exchanged k i j rows))) val
       ∙ exchanged-suc k i j rows d (omega arith) (omega arith)
       (omega (arith, wide-getD cols rows i w (omega arith))) (omega (arith, wide-getD cols rows j w (omega arith)))
+
+  -- the same by two stores in the flat list, in which the rows start at a and b
+  pub swap-suc : (cols n k i j a b : ℕ) (l : List A) (rows : List (List A)) (d : A)
+      → rowsOf cols n l ≡ exchanged k i j rows → Wide cols rows → length rows ≡ n
+      → (i < n) × (a ≡ i * cols) → (j < n) × (b ≡ j * cols) → k < cols
+      → rowsOf cols n (set (set l (a + k) (getD l (b + k) d)) (b + k) (getD l (a + k) d)) ≡ exchanged (suc k) i j rows
+  swap-suc cols n k i j a b l rows d e w m at-i at-j hk =
+      rw (at-i .1, at-j .1) (swap-places cols n k i j l rows d e w m (at-i .0) (at-j .0) hk)

@@ -384,6 +384,27 @@ module _ {A : Type 0} where
   flat-and-rest cols n l =
       ap (λ (t : List A). t ++ drop (n * cols) l) (flat-rowsOf cols n l) ∙ take-append-drop (n * cols) l
 
+  -- ---- where rows of any lengths start
+
+  -- after the cells of the first i rows stand those of the others: row i starts there
+  pub drop-flat : (rows : List (List A)) (i : ℕ) → drop (length (flat (take i rows))) (flat rows) ≡ flat (drop i rows)
+  drop-flat rows i =
+      ap (drop (length (flat (take i rows)))) (ap flat (sym (take-append-drop i rows)) ∙ flat-append (take i rows) (drop i rows))
+      ∙ drop-at (flat (take i rows)) (flat (drop i rows)) (length (flat (take i rows))) refl
+
+  wide-take : (cols : ℕ) (rows : List (List A)) (i : ℕ) → Wide cols rows → Wide cols (take i rows)
+  wide-take cols rows zero w = tt
+  wide-take cols [] (suc i) w = tt
+  wide-take cols (row ∷ rows) (suc i) w = (w .0, wide-take cols rows i (w .1))
+
+  -- in rows of one length, row i at i times that
+  pub first-cell : (cols : ℕ) (rows : List (List A)) (i : ℕ) → Wide cols rows → i ≤ length rows
+      → drop (i * cols) (flat rows) ≡ flat (drop i rows)
+  first-cell cols rows i w h =
+      ap (λ (k : ℕ). drop k (flat rows))
+      (ap (λ (k : ℕ). k * cols) (sym (length-take-le i rows h)) ∙ sym (length-flat cols (take i rows) (wide-take cols rows i w)))
+      ∙ drop-flat rows i
+
   -- a row in the place of another
   pub flat-set : (cols : ℕ) (rows : List (List A)) (i : ℕ) (row : List A) → Wide cols rows → i < length rows
       → length row ≡ cols → flat (set rows i row) ≡ put (i * cols) cols row (flat rows)

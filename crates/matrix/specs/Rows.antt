@@ -1,5 +1,6 @@
 -- A matrix as the list of its rows, and the flat list in which its cells lie row by row. For any cells.
-use Prim.Native.Nat.{ℕ, zero, suc, _+_, _*_}
+use mathlib.Core.Path.{_≡_}
+use Prim.Native.Nat.{ℕ, zero, suc, _+_, _*_, _<_}
 use mathlib.Core.List.{List, [], _∷_, _++_, map}
 use lib.ListN.{take, drop, getD, set}
 
@@ -24,6 +25,15 @@ flat (row ∷ rows) = row ++ flat rows
 -- the rows with row i and row j exchanged
 abbrev pub swapped : {A : Type 0} → (i j : ℕ) → List (List A) → List (List A)
 swapped i j rows = set (set rows i (getD rows j [])) j (getD rows i [])
+
+-- a and b are where rows i and j of a matrix with l cells in rows of cols start
+pub record TwoRows (cols a b l : ℕ) : Type 0 where
+  pub rows : ℕ
+  pub i : ℕ
+  pub j : ℕ
+  pub count : l ≡ rows * cols
+  pub first : (i < rows) × (a ≡ i * cols)
+  pub second : (j < rows) × (b ≡ j * cols)
 
 -- a column of the rows; d where a row is too short
 abbrev pub colOf : {A : Type 0} → A → ℕ → List (List A) → List A

@@ -1,10 +1,11 @@
 // Matrices that lie row by row in a slice, after sage's matrix.rs: the place of a cell, a row as a part, a checked
-// read, two rows exchanged, and the column cursor. A place is always worked out in 32 bits.
+// read, two rows exchanged, and the column cursor. A place is always worked out in 32 bits; who walks the rows in turn
+// adds a row's length instead.
 ghost use mathlib.Core.Path.{_≡_};
 ghost use Prim.Native.Nat.{_+_, _*_, _^_, _≤_, _<_};
 ghost use lib.ListN.{length, replicate};
 ghost use Rattle.float.specs.Number.{zero64};
-ghost use Rattle.matrix.specs.Rows.{placeOf, rowAt, rowsOf, flat, swapped};
+ghost use Rattle.matrix.specs.Rows.{placeOf, rowAt, rowsOf, flat, swapped, TwoRows};
 ghost use Rattle.matrix.specs.Cells.{cellOf, stepOf};
 
 // A peptide's number, and a file's: a row and a column of the matrix of times.
@@ -19,6 +20,15 @@ pub fn place(row: PeptideIx, col: FileIx, files: u32) -> usize
     ensures { λ r. ⌜ r ≡ placeOf files (row .0) (col .0) ⌝ }
 {
     (row.0 * files + col.0) as usize
+}
+
+// The cells of so many rows, which is the place of the first cell after them. For the crates above, within whose limits
+// it is below 2^32.
+pub fn cell_count(rows: usize, cols: usize) -> usize
+    requires { ⌜ (rows < 2 ^ 32) × (cols < 2 ^ 32) × (rows * cols < 2 ^ 32) ⌝ }
+    ensures { λ r. ⌜ r ≡ rows * cols ⌝ }
+{
+    ((rows as u32) * (cols as u32)) as usize
 }
 
 // A row as a part of the slice (Rust's row_slice). For the crates above, which know that the row is there.
@@ -94,22 +104,31 @@ impl Col {
     }
 }
 
-// Exchanges rows i and j of a matrix of rows × cols cells (gauss.rs's swap_rows). For the elimination, which knows
-// that the rows are there.
+// Exchanges the two rows that start at a and b, in a matrix with rows of cols cells. For the elimination, which knows
+// both starts.
+pub fn swap_rows_at(cells: &mut [f64], cols: usize, a: usize, b: usize)
+    requires { ⌜ TwoRows cols a b (length (now cells)) ⌝ }
+    ensures { λ _. ⌜ ((t : TwoRows cols a b (length (now (cells .entry))))
+        → now (cells .exit) ≡ flat (swapped (t .i) (t .j) (rowsOf cols (t .rows) (now (cells .entry))))) ⌝ }
+{
+    let mut k = 0usize;
+    while k < cols {
+        let tmp = cells[a + k];
+        cells[a + k] = cells[b + k];
+        cells[b + k] = tmp;
+        k += 1;
+    }
+}
+
+// Exchanges rows i and j of a matrix of rows × cols cells (gauss.rs's swap_rows). For a caller who knows that the rows
+// are there.
 pub fn swap_rows(cells: &mut [f64], rows: u32, cols: u32, i: u32, j: u32)
     requires { ⌜ (length (now cells) ≡ rows * cols) × (rows * cols < 2 ^ 32) × (i < rows) × (j < rows) ⌝ }
     ensures { λ _. ⌜ now (cells .exit) ≡ flat (swapped i j (rowsOf cols rows (now (cells .entry)))) ⌝ }
 {
     let a = (i * cols) as usize;
     let b = (j * cols) as usize;
-    let n = cols as usize;
-    let mut k = 0usize;
-    while k < n {
-        let tmp = cells[a + k];
-        cells[a + k] = cells[b + k];
-        cells[b + k] = tmp;
-        k += 1;
-    }
+    swap_rows_at(cells, cols as usize, a, b);
 }
 
 // Sets every cell to +0.0.
