@@ -78,42 +78,42 @@ module _ (i : System) (s : Slices) (accept : status i s ≡ accepted) where
 
 -- ---- the contract
 
-module _ (i : System) (s : Slices) where
-  -- the parts of the slices that a call needs
+-- a refused call
+pub refused : (i : System) (s : Slices) (q : ℕ) → q ≡ status i s → (q ≡ 0 → ⊥) → Solves i (change s s) (Refused q)
+refused i s q e z =
+    let test : eqb (status i s) accepted ≡ false = ne-eqb (status i s) 0 (λ h. z (e ∙ h)) in
+    rw e (record { answer = simp test; told = simp test; slices = simp test })
+
+-- what a call needs of its slices: n cells of the workspace, m of the output
+module _ (i : System) (s : Slices) (n m : ℕ) (en : n ≡ needed (i .n) (i .c)) (em : m ≡ outputs (i .n) (i .c)) where
   abbrev pub parts : Slices
-  parts =
-      record {
-        workspace = take (needed (i .n) (i .c)) (s .workspace);
-        solution = take (outputs (i .n) (i .c)) (s .solution);
-      }
+  parts = record { workspace = take n (s .workspace); solution = take m (s .solution) }
 
-  -- the search takes them
-  pub taken : Passed i s → Accepted i parts
-  taken p =
-      record {
-        order = p .order;
-        columns = p .columns;
-        leftCount = p .leftCount;
-        rightCount = p .rightCount;
-        cellCount =
-            length-take-le (needed (i .n) (i .c)) (s .workspace) (p .cellRoom) ∙ sym (mul-add (i .n) (i .n) (i .c));
-        solutionCount = length-take-le (outputs (i .n) (i .c)) (s .solution) (p .solutionRoom);
-      }
+  module _ (p : Passed i s) where
+    pub cells-taken : length (parts .workspace) ≡ n
+    cells-taken = length-take-le n (s .workspace) (omega (arith, p .cellRoom))
 
-  -- a refused call
-  pub refused : (q : ℕ) → q ≡ status i s → (q ≡ 0 → ⊥) → Solves i (change s s) (Refused q)
-  refused q e z =
-      let test : eqb (status i s) accepted ≡ false = ne-eqb (status i s) 0 (λ h. z (e ∙ h)) in
-      rw e (record { answer = simp test; told = simp test; slices = simp test })
+    pub outputs-taken : length (parts .solution) ≡ m
+    outputs-taken = length-take-le m (s .solution) (omega (arith, p .solutionRoom))
+
+    -- the search takes them
+    pub taken : Accepted i parts
+    taken =
+        record {
+          order = p .order;
+          columns = p .columns;
+          leftCount = p .leftCount;
+          rightCount = p .rightCount;
+          cellCount = cells-taken ∙ en ∙ sym (mul-add (i .n) (i .n) (i .c));
+          solutionCount = outputs-taken ∙ em;
+        }
 
   -- the part of the output that was lent, in front of the rest
-  written-is : (x : Solution) (cells : List Float) → cells ≡ written x (parts .solution)
-      → length cells ≡ outputs (i .n) (i .c)
-      → cells ++ drop (outputs (i .n) (i .c)) (s .solution) ≡ solutionOver x (s .solution)
-  written-is (solved eps x) cells e l = overwrite-front x cells (s .solution) (outputs (i .n) (i .c)) e l
+  written-is : (x : Solution) (cells : List Float) → cells ≡ written x (parts .solution) → length cells ≡ m
+      → cells ++ drop m (s .solution) ≡ solutionOver x (s .solution)
+  written-is (solved eps x) cells e l = overwrite-front x cells (s .solution) m e l
   written-is unsolved cells e l =
-      ap (λ (t : List Float). t ++ drop (outputs (i .n) (i .c)) (s .solution)) e
-      ∙ take-append-drop (outputs (i .n) (i .c)) (s .solution)
+      ap (λ (t : List Float). t ++ drop m (s .solution)) e ∙ take-append-drop m (s .solution)
 
   told-is : (x : Solution) → toldBy (answerBy x) ≡ solutionTold x
   told-is (solved eps cells) = refl
@@ -123,20 +123,16 @@ module _ (i : System) (s : Slices) where
   pub answered : status i s ≡ accepted → (t : Slices) (r : SolveAnswer) → Searched i (change parts t) r
       → length (t .workspace) ≡ length (parts .workspace) → length (t .solution) ≡ length (parts .solution)
       → Solves i (change s (record {
-        workspace = t .workspace ++ drop (needed (i .n) (i .c)) (s .workspace);
-        solution = t .solution ++ drop (outputs (i .n) (i .c)) (s .solution);
+        workspace = t .workspace ++ drop n (s .workspace);
+        solution = t .solution ++ drop m (s .solution);
       })) r
   answered e t r f lw ls =
       let p = passed i s e in
-      let n : ℕ = needed (i .n) (i .c) in
       let test : eqb (status i s) accepted ≡ true = eq-eqb (status i s) 0 e in
-      let count : length (parts .workspace) ≡ n = length-take-le n (s .workspace) (p .cellRoom) in
       let workspace-is =
-      overwrite-front (replicate n zero64) (t .workspace) (s .workspace) n
-      (f .cells ∙ ap (λ (k : ℕ). replicate k zero64) count) (lw ∙ count) in
-      let solution-is =
-      written-is (solutionFor i) (t .solution) (f .solution)
-      (ls ∙ length-take-le (outputs (i .n) (i .c)) (s .solution) (p .solutionRoom)) in
+      overwrite-front (replicate (needed (i .n) (i .c)) zero64) (t .workspace) (s .workspace) n
+      (f .cells ∙ ap (λ (k : ℕ). replicate k zero64) (cells-taken p ∙ en)) (lw ∙ cells-taken p) in
+      let solution-is = written-is (solutionFor i) (t .solution) (f .solution) (ls ∙ outputs-taken p) in
       record {
         answer = rw test (f .answer);
         told = rw test (ap toldBy (f .answer) ∙ told-is (solutionFor i));

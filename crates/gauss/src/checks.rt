@@ -31,8 +31,8 @@ fn has_room(n: usize, c: usize, workspace: usize, solution: usize) -> bool
     requires { ⌜ (n ≤ maxOrder) × (c ≤ maxColumns) ⌝ }
     ensures { λ r. ⌜ r ≡ (leb (needed n c) workspace && leb (outputs n c) solution) ⌝ }
 {
-    let outputs = n * c;
-    let needed = n * n + outputs;
+    let outputs = matrix::cell_count(n, c);
+    let needed = matrix::cell_count(n, n) + outputs;
     (needed <= workspace) & (outputs <= solution)
 }
 

@@ -62,8 +62,8 @@ pub fn solve(
     if status != status::ACCEPTED {
         return SolveAnswer::Refused(status);
     }
-    let outputs = n * c;
-    let needed = n * n + outputs;
+    let outputs = matrix::cell_count(n, c);
+    let needed = matrix::cell_count(n, n) + outputs;
     first_solved(
         left,
         right,

@@ -26,7 +26,7 @@ fn cells(n: usize, c: usize) -> usize
     requires { ⌜ (n ≤ 100) × (c ≤ 100) ⌝ }
     ensures { λ r. ⌜ r ≤ 100 * c ⌝ }
 {
-    n * c
+    matrix::cell_count(n, c)
 }
 
 // Cells for a left side, for a right side or a solution, and for the workspace. Each `ensures` gives only the length,

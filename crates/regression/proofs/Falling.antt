@@ -1,6 +1,6 @@
 -- Laws of rows of falling width, for any cells: where each row starts and how many cells there are, a row, a cell, a
 -- row written back, the layout for a loop that makes them anew, and the rows of a flat list.
-use mathlib.Core.Path.{_≡_, refl, ap, _∙_}
+use mathlib.Core.Path.{_≡_, refl, sym, ap, _∙_}
 use mathlib.Core.List.{List, [], _∷_, _++_}
 use Prim.Native.Nat.{ℕ, zero, suc, _+_, _-_, _*_, _/_, _≤_, _<_}
 use native.Mathlib.Nat.{le-of-suc-le-suc, not-suc-le-zero, suc-mul, mul-suc}
@@ -10,7 +10,7 @@ use lib.ListN.{replicate-append-replicate}
 use lib.Seq.{length-take-le, take-at, drop-at, drop-drop, getD-take, getD-drop}
 use Rattle.matrix.specs.Rows.{flat}
 use Rattle.matrix.specs.Lists.{tabulate}
-use Rattle.matrix.proofs.Laws.{put, put-past}
+use Rattle.matrix.proofs.Laws.{put, put-past, drop-flat}
 use Rattle.matrix.proofs.Lists.{tabulate-same}
 use Rattle.elimination.proofs.Rows.{Layout}
 use Rattle.regression.specs.Falling.{fallingRows, fallingStart}
@@ -167,6 +167,19 @@ module _ {A : Type 0} where
   length-flat-falling w [] f = refl
   length-flat-falling w (row ∷ rows) f =
       length-append row (flat rows) ∙ omega (arith, f .0, length-flat-falling (w - 1) rows (f .1))
+
+  falling-take : (w i : ℕ) (rows : List (List A)) → Falling w rows → Falling w (take i rows)
+  falling-take w zero rows f = tt
+  falling-take w (suc i) [] f = tt
+  falling-take w (suc i) (row ∷ rows) f = (f .0, falling-take (w - 1) i rows (f .1))
+
+  -- row j starts where the lengths of the rows before it, added up, say
+  pub falling-first-cell : (w j : ℕ) (rows : List (List A)) → Falling w rows → j ≤ length rows
+      → drop (fallingStart w j) (flat rows) ≡ flat (drop j rows)
+  falling-first-cell w j rows f h =
+      ap (λ (k : ℕ). drop k (flat rows))
+      (ap (fallingStart w) (sym (length-take-le j rows h)) ∙ sym (length-flat-falling w (take j rows) (falling-take w j rows f)))
+      ∙ drop-flat rows j
 
   -- rows of one cell again and again
   pub flat-constant : (w n : ℕ) (a : A) → flat (tabulate n (λ j. replicate (w - j) a)) ≡ replicate (fallingStart w n) a

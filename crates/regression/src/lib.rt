@@ -81,7 +81,7 @@ fn system_length(d: usize) -> usize
     requires { ⌜ d ≤ maxOrder ⌝ }
     ensures { λ r. ⌜ r ≡ systemLength d ⌝ }
 {
-    ((d as u32) * (d as u32 + 1)) as usize
+    matrix::cell_count(d, d + 1)
 }
 
 // The cells of the workspace of a fit of the largest order, for arrays.

@@ -3,7 +3,7 @@
 ghost use mathlib.Core.Path.{_≡_};
 ghost use mathlib.Core.Bool.{true};
 ghost use mathlib.Core.List.{List, map};
-ghost use Prim.Native.Nat.{ℕ, _*_, _<_, _^_};
+ghost use Prim.Native.Nat.{ℕ};
 ghost use lib.ListN.{length};
 ghost use Rattle.status.specs.Checks.{allBelow};
 ghost use Rattle.rt_matrix.specs.Columns.{fileColumnsAt, fileColumnsOf};
@@ -74,14 +74,6 @@ fn align_rows(
         aligned[i] = aligned_time(max_rt[k], slope[k], intercept[k], rt[i]);
         i += 1;
     }
-}
-
-// The number of cells of the matrix of times, worked out in 32 bits.
-fn cell_count(peptides: usize, files: usize) -> usize
-    requires { ⌜ (peptides < 2 ^ 32) × (files < 2 ^ 32) × (peptides * files < 2 ^ 32) ⌝ }
-    ensures { λ r. ⌜ r ≡ peptides * files ⌝ }
-{
-    ((peptides as u32) * (files as u32)) as usize
 }
 
 // Whether the workspace and the outputs are long enough.
@@ -218,7 +210,7 @@ pub fn global_alignment(
     if status != status::ACCEPTED {
         return AlignAnswer::Refused(status);
     }
-    let cells = cell_count(peptides, files);
+    let cells = matrix::cell_count(peptides, files);
     let rows = file.len();
     align(
         file,

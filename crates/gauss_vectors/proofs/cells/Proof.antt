@@ -8,11 +8,11 @@ use Rattle.gauss_vectors.proofs.cells.Tie as tie
 most : (c : tie.Start) → c .args .n * c .args .c ≤ 100 * c .args .c
 most c = mul-le-mul-right (c .args .c) (c .pre .0)
 
-mul-result : tie.Need-mul-result
-mul-result c = record { fits = omega (arith, most c) }
+cell-count-requires : tie.Need-cell-count-requires
+cell-count-requires c κs = (omega arith, omega arith, omega (arith, most c))
 
 returns : tie.Need-returns
-returns c = most c
+returns c = omega (arith, most (c .before), c .cell-count .ensures)
 
 pub cells-spec : {M : Type 1} → statement M
-cells-spec = tie.close (tie.spec mul-result returns)
+cells-spec = tie.close (tie.spec cell-count-requires returns)

@@ -10,24 +10,15 @@ use Rattle.regression.proofs.system_length.Tie as tie
 few : (s : tie.Start) → s .args .d * (s .args .d + 1) ≤ maxOrder * (s .args .d + 1)
 few s = mul-le-mul-right {m = s .args .d} {n = maxOrder} (s .args .d + 1) (s .pre)
 
-cast-result : tie.Need-cast-result
-cast-result c = search needs
+add-cell-count : tie.Need-add-cell-count
+add-cell-count c = search needs
 
-cast-result-2 : tie.Need-cast-result-2
-cast-result-2 c = search needs
-
-add-result : tie.Need-add-result
-add-result c = search needs
-
-mul-result : tie.Need-mul-result
-mul-result c = omega (arith, few c)
-
-cast-result-3 : tie.Need-cast-result-3
-cast-result-3 c = omega (arith, few c)
+cell-count-requires : tie.Need-cell-count-requires
+cell-count-requires c κs = (omega arith, omega arith, omega (arith, few c))
 
 returns : tie.Need-returns
 returns c = search needs
 
 pub system-length-spec : {M : Type 1} → statement M
 system-length-spec =
-    tie.close (tie.spec cast-result cast-result-2 add-result mul-result cast-result-3 returns)
+    tie.close (tie.spec add-cell-count cell-count-requires returns)
