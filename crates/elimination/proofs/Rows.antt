@@ -24,9 +24,13 @@ use Rattle.elimination.specs.Rows.{rowOf, augmented}
 use Rattle.elimination.proofs.Made.{made, made-suc}
 use Rattle.elimination.proofs.Parts.{part-length}
 
--- the start of the next row
+-- the start of the next row, and of the one before
 pub next-start : (a i w : ℕ) → a ≡ i * w → a + w ≡ (i + 1) * w
 next-start a i w e = omega arith
+
+pub previous-start : (a i w : ℕ) → 0 < i → a ≡ i * w → (w ≤ a) × (a - w ≡ (i - 1) * w)
+previous-start a zero w h e = absurd (not-suc-le-zero h)
+previous-start a (suc i) w h e = let less : suc i - 1 ≡ i = omega arith in (omega arith, rw less (omega arith))
 
 -- ---- a loop that makes the rows anew, in their order
 
@@ -85,6 +89,22 @@ module _ {A : Type 0} (m : ℕ) (rows : List A → List (List A)) (start wide : 
           same-len-mid at (at + v - at) xs r kept ∙ inv .3,
         );
       }
+
+-- ---- a row that is lent to be read
+
+module _ {A : Type 0} (w n i a : ℕ) (cells : List A) (h : i < n) (l : length cells ≡ n * w) (e : a ≡ i * w) where
+  lent-length : length (take (a + w - a) (drop a cells)) ≡ w
+  lent-length =
+      part-length a (a + w - a) cells (omega (arith, row-end w n i h, add-sub-cancel-left a w)) ∙ add-sub-cancel-left a w
+
+  -- the front of a copy of it is row i
+  pub copied-row : (copy : List A)
+      → take (length (take (a + w - a) (drop a cells))) copy ≡ take (a + w - a) (drop a cells)
+      → take w copy ≡ rowOf (rowsOf w n cells) i
+  copied-row copy same =
+      ap (λ (k : ℕ). take k copy) (sym lent-length)
+      ∙ same
+      ∙ rw (add-sub-cancel-left, e) (sym (row-rowsOf w n i cells h))
 
 -- ---- rows of one width
 

@@ -1,21 +1,11 @@
-// Where a row starts, and cells copied, with the one NaN too.
+// Cells copied, with the one NaN too.
 ghost use mathlib.Core.Path.{_≡_};
-ghost use Prim.Native.Nat.{_*_, _≤_, _<_};
+ghost use Prim.Native.Nat.{_≤_};
 ghost use lib.ListN.{length, take};
-ghost use Rattle.matrix.specs.Rows.{rowsOf};
-ghost use Rattle.status.specs.Limits.{maxOrder};
-ghost use Rattle.elimination.specs.Rows.{maxWidth, Shape, rowOf};
+ghost use Rattle.elimination.specs.Rows.{maxWidth};
 
 // The cells of the widest row, left and right.
 pub(crate) const MAX_WIDTH: usize = status::MAX_ORDER + status::MAX_COLUMNS;
-
-// The place of a row's first cell, for a row that is not reached by walking.
-pub(crate) fn row_start(row: usize, w: usize) -> usize
-    requires { ⌜ (row ≤ maxOrder) × (w ≤ maxWidth) ⌝ }
-    ensures { λ r. ⌜ r ≡ row * w ⌝ }
-{
-    ((row as u32) * (w as u32)) as usize
-}
 
 // `dst` becomes `src`.
 pub(crate) fn copy(dst: &mut [f64], src: &[f64])
@@ -48,12 +38,13 @@ fn blank_row() -> [f64; MAX_WIDTH]
     [0.0; MAX_WIDTH]
 }
 
-// A copy of row i in an array of its own, so that the row can be read while other rows are written.
-pub(crate) fn row_copy(cells: &[f64], n: usize, w: usize, i: usize) -> [f64; MAX_WIDTH]
-    requires { ⌜ Shape n w (now cells) × (i < n) ⌝ }
-    ensures { λ r. ⌜ (take w r ≡ rowOf (rowsOf w n (now (cells .entry))) i) × (length r ≡ maxWidth) ⌝ }
+// A copy of a row in an array of its own, so that the row can be read while other rows are written.
+pub(crate) fn row_copy(row: &[f64]) -> [f64; MAX_WIDTH]
+    requires { ⌜ length (now row) ≤ maxWidth ⌝ }
+    ensures { λ r. ⌜ (take (length (now (row .entry))) r ≡ now (row .entry)) × (length r ≡ maxWidth) ⌝ }
 {
-    let mut row = blank_row();
-    copy(&mut row[..w], matrix::row_slice(cells, i as u32, w as u32));
-    row
+    let w = row.len();
+    let mut own = blank_row();
+    copy(&mut own[..w], row);
+    own
 }

@@ -3,11 +3,10 @@ ghost use mathlib.Core.Path.{_≡_};
 ghost use mathlib.Core.List.{map};
 ghost use Prim.Native.Nat.{_*_, _≤_, _<_};
 ghost use lib.ListN.{length};
-ghost use Rattle.matrix.specs.Rows.{rowsOf, swapped};
+ghost use Rattle.matrix.specs.Rows.{rowsOf};
 ghost use Rattle.elimination.specs.Rows.{Shape};
 ghost use Rattle.elimination.specs.Elimination.{fillZero, pivotRow, cleared, clearBelow, echelon};
 use crate::cells::row_copy;
-use crate::cells::row_start;
 use crate::row::clear_column;
 
 // Adds eps to the left diagonal.
@@ -25,14 +24,15 @@ pub(crate) fn fill_zero(cells: &mut [f64], n: usize, w: usize, eps: f64)
     }
 }
 
-// The row with the largest value in column k from row h down, the last of equals; row 0 where there is none.
-fn pivot(cells: &[f64], n: usize, w: usize, h: usize, k: usize) -> usize
-    requires { ⌜ Shape n w (now cells) × (h ≤ n) × (k < n) ⌝ }
+// The row with the largest value in column k from row h down, the last of equals; row 0 where there is none. Row h
+// starts at `start`.
+fn pivot(cells: &[f64], n: usize, w: usize, h: usize, start: usize, k: usize) -> usize
+    requires { ⌜ Shape n w (now cells) × (h ≤ n) × (start ≡ h * w) × (k < n) ⌝ }
     ensures { λ r. ⌜ r ≡ pivotRow h k (rowsOf w n (now (cells .entry))) ⌝ }
 {
     let mut best = 0;
     let mut max = -1.7976931348623157e308;
-    let mut at = row_start(h, w);
+    let mut at = start;
     let mut i = h;
     while i < n {
         let p = at + k;
@@ -66,41 +66,36 @@ fn clear_rows(cells: &mut [f64], m: usize, pivot: &[f64], k: usize)
     }
 }
 
-// Clears column k below row h.
-fn clear_below(cells: &mut [f64], n: usize, w: usize, h: usize, k: usize)
-    requires { ⌜ Shape n w (now cells) × (h < n) × (k < n) ⌝ }
+// Clears column k below row h, which starts at `start`.
+fn clear_below(cells: &mut [f64], n: usize, w: usize, h: usize, start: usize, k: usize)
+    requires { ⌜ Shape n w (now cells) × (h < n) × (start ≡ h * w) × (k < n) ⌝ }
     ensures { λ _. ⌜ rowsOf w n (now (cells .exit)) ≡ clearBelow h k (rowsOf w n (now (cells .entry))) ⌝ }
 {
-    let pivot = row_copy(&cells[..], n, w, h);
-    let end = row_start(h + 1, w);
+    let end = start + w;
+    let pivot = row_copy(&cells[start..end]);
     clear_rows(&mut cells[end..], n - h - 1, &pivot[..w], k);
 }
 
-// Brings the pivot row i to row h, and clears column k below it.
-fn eliminate_column(cells: &mut [f64], n: usize, w: usize, h: usize, i: usize, k: usize)
-    requires { ⌜ Shape n w (now cells) × (h < n) × (i < n) × (k < n) ⌝ }
-    ensures { λ _. ⌜ rowsOf w n (now (cells .exit))
-        ≡ clearBelow h k (swapped h i (rowsOf w n (now (cells .entry)))) ⌝ }
-{
-    matrix::swap_rows(cells, n as u32, w as u32, h as u32, i as u32);
-    clear_below(cells, n, w, h, k);
-}
-
-// Brings the left side into echelon form, column by column.
+// Brings the left side into echelon form, column by column: the pivot row comes to row h, and the column is cleared
+// below it. Row h is walked, and starts at `at_h`; the pivot row is reached out of turn.
 pub(crate) fn echelon(cells: &mut [f64], n: usize, w: usize)
     requires { ⌜ Shape n w (now cells) ⌝ }
     ensures { λ _. ⌜ rowsOf w n (now (cells .exit)) ≡ echelon n (rowsOf w n (now (cells .entry))) ⌝ }
 {
     let mut h = 0;
+    let mut at_h = 0;
     let mut k = 0;
     while k < n {
-        let i = pivot(&cells[..], n, w, h, k);
-        let p = row_start(i, w) + k;
+        let i = pivot(&cells[..], n, w, h, at_h, k);
+        let at_i = matrix::cell_count(i, w);
+        let p = at_i + k;
         if cells[p] == 0.0 {
             k += 1;
             continue;
         }
-        eliminate_column(cells, n, w, h, i, k);
+        matrix::swap_rows_at(cells, w, at_h, at_i);
+        clear_below(cells, n, w, h, at_h, k);
+        at_h += w;
         h += 1;
         k += 1;
     }

@@ -15,7 +15,6 @@ ghost use Rattle.elimination.specs.Elimination.{
   leftSolved,
 };
 use crate::cells::row_copy;
-use crate::cells::row_start;
 use crate::row::divide_row;
 use crate::row::first_nonzero;
 use crate::row::subtract_multiple;
@@ -52,16 +51,16 @@ fn subtract_multiples(cells: &mut [f64], m: usize, by: &[f64], j: usize)
     }
 }
 
-// Clears the column of row i's first nonzero left cell above row i.
-fn clear_above(cells: &mut [f64], n: usize, w: usize, i: usize)
-    requires { ⌜ Shape n w (now cells) × (i < n) ⌝ }
+// Clears the column of row i's first nonzero left cell above row i, which starts at `start`.
+fn clear_above(cells: &mut [f64], n: usize, w: usize, i: usize, start: usize)
+    requires { ⌜ Shape n w (now cells) × (i < n) × (start ≡ i * w) ⌝ }
     ensures { λ _. ⌜ rowsOf w n (now (cells .exit)) ≡ clearAbove n i (rowsOf w n (now (cells .entry))) ⌝ }
 {
-    let row = row_copy(&cells[..], n, w, i);
-    let at = row_start(i, w);
+    let end = start + w;
+    let row = row_copy(&cells[start..end]);
     let j = first_nonzero(&row[..n]);
     if j < n {
-        subtract_multiples(&mut cells[..at], i, &row[..w], j);
+        subtract_multiples(&mut cells[..start], i, &row[..w], j);
     }
 }
 
@@ -71,9 +70,11 @@ pub(crate) fn backfill(cells: &mut [f64], n: usize, w: usize)
     ensures { λ _. ⌜ rowsOf w n (now (cells .exit)) ≡ backfill n (rowsOf w n (now (cells .entry))) ⌝ }
 {
     let mut i = n;
+    let mut at = cells.len();
     while i > 0 {
         i -= 1;
-        clear_above(cells, n, w, i);
+        at -= w;
+        clear_above(cells, n, w, i, at);
     }
 }
 

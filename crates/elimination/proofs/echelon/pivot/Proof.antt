@@ -1,8 +1,8 @@
 -- `elimination::echelon::pivot` meets its contract. The loop's invariant: what the search finds from row i on, with
 -- the best so far, is what it finds in all; row i starts at `at`.
-use mathlib.Core.Path.{_≡_, refl, sym, ap, _∙_}
-use mathlib.Core.List.{List, [], map}
-use Prim.Native.Nat.{ℕ, suc, _+_, _*_, _≤_, _<_, _-_}
+use mathlib.Core.Path.{_≡_, refl, sym, _∙_}
+use mathlib.Core.List.{List, map}
+use Prim.Native.Nat.{_+_, _*_, _≤_, _<_, _-_}
 use native.Mathlib.Omega.{arith}
 use native.Mathlib.Numerals.{add-one}
 use lib.ListN.{length, getD, drop, drop-of-length-le}
@@ -19,40 +19,37 @@ use Rattle.elimination.proofs.echelon.pivot.Statement.{statement}
 use Rattle.elimination.proofs.echelon.pivot.Tie as tie
 
 abbrev Inv-loop : tie.InvT-loop
-Inv-loop cells n w h k best₀ max₀ at₀ i₀ best max at i =
+Inv-loop cells n w h start k best₀ max₀ at₀ i₀ best max at i =
     (i ≤ n) × (at ≡ i * w) × (largest i best max (map (cell k) (drop i (rowsOf w n cells))) ≡ pivotRow h k (rowsOf w n cells))
 
 abbrev μ-loop : tie.MeasureT-loop
-μ-loop cells n w h k best₀ max₀ at₀ i₀ best max at i = n - i
-
-row-start-requires : tie.Need-row-start-requires Inv-loop μ-loop
-row-start-requires c κs = let s = c .before .pre .0 in omega arith
+μ-loop cells n w h start k best₀ max₀ at₀ i₀ best max at i = n - i
 
 loop-holds : tie.Need-loop-holds Inv-loop μ-loop
 unfolding neg ofBits
-loop-holds c = (c .before .before .pre .1, c .row-start .ensures, refl)
+loop-holds c = (c .pre .1, c .pre .2, refl)
 
 add-p : tie.Need-add-p Inv-loop μ-loop
 add-p c =
-    let k = inside (c .before .before .before .before .pre .0) (c .before .loop .i) (c .loop-test .taken) in
+    let k = inside (c .before .before .pre .0) (c .before .loop .i) (c .loop-test .taken) in
     omega arith
 
 mul-x : tie.Need-mul-x Inv-loop μ-loop
 mul-x c =
-    let k = inside (c .before .before .before .before .pre .0) (c .before .loop .i) (c .loop-test .taken) in
+    let k = inside (c .before .before .pre .0) (c .before .loop .i) (c .loop-test .taken) in
     omega arith
 
 shared-slice-read-x : tie.Need-shared-slice-read-x Inv-loop μ-loop
 shared-slice-read-x c =
     let k =
-    inside (c .before .before .before .before .before .pre .0) (c .before .before .loop .i)
+    inside (c .before .before .before .pre .0) (c .before .before .loop .i)
     (c .before .loop-test .taken) in
     omega arith
 
 add-at : tie.Need-add-at Inv-loop μ-loop
 add-at c =
     let k =
-    inside (c .before .before .before .before .before .pre .0) (c .before .before .loop .i)
+    inside (c .before .before .before .pre .0) (c .before .before .loop .i)
     (c .before .loop-test .taken) in
     omega arith
 
@@ -65,7 +62,7 @@ loop-less c = search needs
 loop-again : tie.Need-loop-again Inv-loop μ-loop
 loop-again c =
     let l = c .before .before .before in
-    let s = l .before .before .before in
+    let s = l .before in
     let rows : List (List Float) = rowsOf (s .args .w) (s .args .n) (now (s .args .cells)) in
     let h : l .loop .i < length rows = rw length-rowsOf (c .before .before .loop-test .taken) in
     let here : cell (s .args .k) (rowOf rows (l .loop .i)) ≡ getD (now (s .args .cells)) (l .loop .at + s .args .k) nan =
@@ -82,7 +79,7 @@ loop-less-2 c = search needs
 loop-again-2 : tie.Need-loop-again-2 Inv-loop μ-loop
 loop-again-2 c =
     let l = c .before .before .before in
-    let s = l .before .before .before in
+    let s = l .before in
     let rows : List (List Float) = rowsOf (s .args .w) (s .args .n) (now (s .args .cells)) in
     let h : l .loop .i < length rows = rw length-rowsOf (c .before .before .loop-test .taken) in
     let here : cell (s .args .k) (rowOf rows (l .loop .i)) ≡ getD (now (s .args .cells)) (l .loop .at + s .args .k) nan =
@@ -94,7 +91,7 @@ returns : tie.Need-returns Inv-loop μ-loop
 unfolding largest
 returns c =
     let l = c .before in
-    let s = l .before .before .before in
+    let s = l .before in
     let rows : List (List Float) = rowsOf (s .args .w) (s .args .n) (now (s .args .cells)) in
     let h : length rows ≤ l .loop .i = rw length-rowsOf (omega arith) in
     rw (drop-of-length-le rows h) at (l .loop .inv .2)
@@ -105,7 +102,6 @@ pivot-spec =
     (tie.spec
     Inv-loop
     μ-loop
-    row-start-requires
     loop-holds
     add-p
     mul-x

@@ -1,8 +1,8 @@
 -- `elimination::reduced::backfill` meets its contract. The loop's invariant: what is left of the rows, from row i - 1
--- up, gives what all of them give.
+-- up, gives what all of them give; row i starts at `at`, and past the last row the cells end.
 use mathlib.Core.Path.{_≡_, refl, sym, ap, _∙_}
 use mathlib.Core.List.{List}
-use Prim.Native.Nat.{ℕ, suc, _≤_, _<_, _-_}
+use Prim.Native.Nat.{ℕ, suc, _*_, _≤_, _<_, _-_}
 use native.Mathlib.Nat.{le-refl}
 use native.Mathlib.Omega.{arith}
 use lib.ListN.{length}
@@ -11,6 +11,7 @@ use denote.Ref.{now}
 use Rattle.matrix.specs.Rows.{rowsOf}
 use Rattle.matrix.proofs.Laws.{length-rowsOf}
 use Rattle.elimination.specs.Elimination.{clearAbove, backfillFrom, backfill}
+use Rattle.elimination.proofs.Rows.{previous-start}
 use Rattle.elimination.proofs.Shape.{shape-kept}
 use borrow.Author.Needs.{needs}
 use Rattle.elimination.proofs.reduced.backfill.Statement.{statement}
@@ -24,26 +25,29 @@ row-used n i rows new h e =
     ap (backfillFrom n (i - 1)) e ∙ ap (λ (m : ℕ). backfillFrom n m rows) one
 
 abbrev Inv-loop : tie.InvT-loop
-Inv-loop cells₀ n w i₀ cells i =
-    (i ≤ n) × (length cells ≡ length cells₀) × (backfillFrom n i (rowsOf w n cells) ≡ backfill n (rowsOf w n cells₀))
+Inv-loop cells₀ n w i₀ at₀ cells i at =
+    (i ≤ n) × (at ≡ i * w) × (length cells ≡ length cells₀) × (backfillFrom n i (rowsOf w n cells) ≡ backfill n (rowsOf w n cells₀))
 
 abbrev μ-loop : tie.MeasureT-loop
-μ-loop cells₀ n w i₀ cells i = i
+μ-loop cells₀ n w i₀ at₀ cells i at = i
 
 loop-holds : tie.Need-loop-holds Inv-loop μ-loop
 loop-holds c =
     let s = c .before in
     let rows : List (List Float) = rowsOf (s .args .w) (s .args .n) (now (s .args .cells)) in
-    (le-refl (s .args .n), refl, ap (λ (m : ℕ). backfillFrom (s .args .n) m rows) (sym (length-rowsOf (s .args .w) (s .args .n) (now (s .args .cells)))))
+    (le-refl (s .args .n), s .pre .count, refl, ap (λ (m : ℕ). backfillFrom (s .args .n) m rows) (sym (length-rowsOf (s .args .w) (s .args .n) (now (s .args .cells)))))
 
 sub-i : tie.Need-sub-i Inv-loop μ-loop
 sub-i c = search needs
+
+sub-at : tie.Need-sub-at Inv-loop μ-loop
+sub-at c = let l = c .before in omega (arith, previous-start (l .loop .at) (l .loop .i) _ (omega arith) (l .loop .inv .1) .0)
 
 clear-above-requires : tie.Need-clear-above-requires Inv-loop μ-loop
 clear-above-requires c κs =
     let l = c .before .before in
     let s = l .before .before in
-    (shape-kept (s .pre) (l .loop .inv .1), omega arith)
+    (shape-kept (s .pre) (l .loop .inv .2), omega arith, previous-start (l .loop .at) (l .loop .i) (s .args .w) (omega arith) (l .loop .inv .1) .1)
 
 loop-less : tie.Need-loop-less Inv-loop μ-loop
 loop-less c = search needs
@@ -54,19 +58,20 @@ loop-again c =
     let s = l .before .before in
     let b = c .before .before in (
       omega arith,
-      b .clear-above .kept .0 ∙ l .loop .inv .1,
-      row-used (s .args .n) (l .loop .i) (rowsOf (s .args .w) (s .args .n) (l .loop .cells)) (rowsOf (s .args .w) (s .args .n) (b .clear-above .last .0)) (c .before .before .before .before .loop-test .taken) (b .clear-above .ensures) ∙ l .loop .inv .2,
+      previous-start (l .loop .at) (l .loop .i) (s .args .w) (omega arith) (l .loop .inv .1) .1,
+      b .clear-above .kept .0 ∙ l .loop .inv .2,
+      row-used (s .args .n) (l .loop .i) (rowsOf (s .args .w) (s .args .n) (l .loop .cells)) (rowsOf (s .args .w) (s .args .n) (b .clear-above .last .0)) (c .before .before .before .before .loop-test .taken) (b .clear-above .ensures) ∙ l .loop .inv .3,
     )
 
 same-length : tie.Need-same-length Inv-loop μ-loop
-same-length c = c .before .loop .inv .1
+same-length c = c .before .loop .inv .2
 
 returns : tie.Need-returns Inv-loop μ-loop
 unfolding backfillFrom
 returns c =
     let l = c .before in
     let e : l .loop .i ≡ 0 = omega arith in
-    rw e at (l .loop .inv .2)
+    rw e at (l .loop .inv .3)
 
 pub backfill-spec : {M : Type 1} → statement M
 backfill-spec =
@@ -76,6 +81,7 @@ backfill-spec =
     μ-loop
     loop-holds
     sub-i
+    sub-at
     clear-above-requires
     loop-less
     loop-again

@@ -1,8 +1,9 @@
--- `elimination::reduced::clear_above` meets its contract: the rows before row i are the part that was lent.
-use mathlib.Core.Path.{_≡_, refl, sym, ap, _∙_}
+-- `elimination::reduced::clear_above` meets its contract: the part from row i's start on is row i, and the rows before
+-- it are the part that was lent.
+use mathlib.Core.Path.{_≡_, sym, ap, _∙_}
 use mathlib.Core.List.{List, _++_, map}
-use Prim.Native.Nat.{ℕ, _*_, _≤_, _<_}
-use native.Mathlib.Nat.{le-of-lt, le-refl}
+use Prim.Native.Nat.{ℕ, _+_, _*_, _≤_, _<_}
+use native.Mathlib.Nat.{le-of-lt}
 use native.Mathlib.Omega.{arith}
 use lib.ListN.{length, take, drop}
 use lib.Seq.{length-take-le, take-take}
@@ -15,7 +16,7 @@ use Rattle.matrix.proofs.Laws.{rowsOf-take, take-rowsOf}
 use Rattle.elimination.specs.Rows.{rowOf}
 use Rattle.elimination.specs.Elimination.{leadingZeros, leading, lessMultiple, clearAbove}
 use Rattle.elimination.proofs.Elimination.{if-true, if-false}
-use Rattle.elimination.proofs.Rows.{rows-above}
+use Rattle.elimination.proofs.Rows.{copied-row, rows-above}
 use Rattle.elimination.proofs.Shape.{inside}
 use borrow.Author.Needs.{needs}
 use Rattle.elimination.proofs.reduced.clear_above.Statement.{statement}
@@ -49,53 +50,78 @@ module _ (n w i j a : ℕ) (cells row : List Float) (l : n ≤ w) (here : take w
       let rows : List (List Float) = rowsOf w n cells in
       sym (if-false (ltb (leading n (rowOf rows i)) n) _ rows (le-ltb (leading n (rowOf rows i)) n (rw place at ge)))
 
+-- where row i ends, as the function begins
+row-within : (s : tie.Start)
+    → let a = s .args in (a .start + a .w ≤ length (now (a .cells))) × (length (now (a .cells)) ≤ 10800)
+row-within s = let e = inside (s .pre .0) (s .args .i) (s .pre .1) in (omega (arith, e .0, s .pre .2), e .1)
+
+-- row i's copy: its first w cells are the row
+module _ (c : tie.After-row-copy) where
+  abbrev begin : tie.Start
+  begin = c .before .before .before .before
+
+  copied : take (begin .args .w) (c .row-copy .result)
+      ≡ rowOf (rowsOf (begin .args .w) (begin .args .n) (now (begin .args .cells))) (begin .args .i)
+  copied =
+      copied-row (begin .args .w) (begin .args .n) (begin .args .i) (begin .args .start) (now (begin .args .cells))
+      (begin .pre .1) (begin .pre .0 .count) (begin .pre .2) (c .row-copy .result) (c .row-copy .ensures .0)
+
+  own-length : length (take (begin .args .w) (c .row-copy .result)) ≡ begin .args .w
+  own-length =
+      length-take-le (begin .args .w) (c .row-copy .result) (omega (arith, begin .pre .0 .wide, c .row-copy .ensures .1))
+
+  -- the rows before it
+  front-length : length (take (begin .args .start) (now (begin .args .cells))) ≡ begin .args .start
+  front-length = length-take-le (begin .args .start) (now (begin .args .cells)) (omega (arith, row-within begin))
+
+add-end : tie.Need-add-end
+add-end c = omega (arith, row-within (c .before))
+
+mul-row-copy : tie.Need-mul-row-copy
+mul-row-copy c = omega (arith, row-within (c .before))
+
+sub-row-copy : tie.Need-sub-row-copy
+sub-row-copy c = search needs
+
+part-row-copy-start : tie.Need-part-row-copy-start
+part-row-copy-start c = search needs
+
+part-row-copy-end : tie.Need-part-row-copy-end
+part-row-copy-end c = omega (arith, row-within (c .before .before))
+
 row-copy-requires : tie.Need-row-copy-requires
 row-copy-requires c κs = search needs
-
-row-start-requires : tie.Need-row-start-requires
-row-start-requires c κs = search needs
 
 array-share-prefix-row : tie.Need-array-share-prefix-row
 array-share-prefix-row c = search needs
 
 slice-aggregate-first-nonzero : tie.Need-slice-aggregate-first-nonzero
 slice-aggregate-first-nonzero c =
-    let s = c .before .before .before .before .before in
-    sym
-    (length-take-le (s .args .n) (c .before .before .row-copy .result) (omega (arith, s .pre .0 .order, c .before .before .row-copy .ensures .1)))
+    let r = c .before in
+    let s = begin r in
+    sym (length-take-le (s .args .n) (r .row-copy .result) (omega (arith, s .pre .0 .order, r .row-copy .ensures .1)))
 
 first-nonzero-requires : tie.Need-first-nonzero-requires
 first-nonzero-requires c κs = search needs
 
 slice-relend-prefix-subtract-multiples : tie.Need-slice-relend-prefix-subtract-multiples
-slice-relend-prefix-subtract-multiples c =
-    let s = c .before .before .before .before .before .before .before in
-    let e = inside (s .pre .0) (s .args .i) (s .pre .1) in
-    omega (arith, c .before .before .before .row-start .ensures)
+slice-relend-prefix-subtract-multiples c = omega (arith, row-within (begin (c .before .before .before)))
 
 slice-aggregate-subtract-multiples : tie.Need-slice-aggregate-subtract-multiples
-slice-aggregate-subtract-multiples c =
-    let s = c .before .before .before .before .before .before .before .before in
-    let e = inside (s .pre .0) (s .args .i) (s .pre .1) in
-    sym
-    (length-take-le (c .before .before .before .before .row-start .result) (now (s .args .cells)) (omega (arith, c .before .before .before .before .row-start .ensures)))
+slice-aggregate-subtract-multiples c = sym (front-length (c .before .before .before .before))
 
 array-share-prefix-row-2 : tie.Need-array-share-prefix-row-2
 array-share-prefix-row-2 c = search needs
 
 slice-aggregate-subtract-multiples-2 : tie.Need-slice-aggregate-subtract-multiples-2
-slice-aggregate-subtract-multiples-2 c =
-    let s = c .before .before .before .before .before .before .before .before .before in
-    sym
-    (length-take-le (s .args .w) (c .before .before .before .before .before .before .row-copy .result) (omega (arith, s .pre .0 .wide, c .before .before .before .before .before .before .row-copy .ensures .1)))
+slice-aggregate-subtract-multiples-2 c = sym (own-length (c .before .before .before .before .before))
 
 subtract-multiples-requires : tie.Need-subtract-multiples-requires
 subtract-multiples-requires c κs =
-    let s = c .before .before .before .before .before .before .before .before .before in
-    let e = inside (s .pre .0) (s .args .i) (s .pre .1) in
-    let len : length (take (s .args .w) (c .before .before .before .before .before .before .row-copy .result)) ≡ s .args .w = length-take-le (s .args .w) (c .before .before .before .before .before .before .row-copy .result) (omega (arith, s .pre .0 .wide, c .before .before .before .before .before .before .row-copy .ensures .1)) in (
-      length-take-le (c .before .before .before .before .before .row-start .result) (now (s .args .cells)) (omega (arith, c .before .before .before .before .before .row-start .ensures)) ∙ c .before .before .before .before .before .row-start .ensures ∙ ap (λ (k : ℕ). s .args .i * k) (sym len),
-      omega (arith, c .before .before .if1 .taken, s .pre .0 .left),
+    let r = c .before .before .before .before .before in
+    let s = begin r in (
+      front-length r ∙ s .pre .2 ∙ ap (λ (k : ℕ). s .args .i * k) (sym (own-length r)),
+      omega (arith, own-length r, c .before .before .if1 .taken, s .pre .0 .left),
     )
 
 same-length : tie.Need-same-length
@@ -104,19 +130,14 @@ same-length c = search needs
 returns : tie.Need-returns
 returns c =
     let b = c .before .before in
-    let j = c .before .before .before .before .before .before in
-    let a = c .before .before .before .before .before .before .before .before in
-    let r = c .before .before .before .before .before .before .before .before .before in
-    let s = c .before .before .before .before .before .before .before .before .before .before .before .before in
-    let len : length (take (s .args .w) (r .row-copy .result)) ≡ s .args .w =
-    length-take-le (s .args .w) (r .row-copy .result) (omega (arith, s .pre .0 .wide, r .row-copy .ensures .1)) in
-    let e = inside (s .pre .0) (s .args .i) (s .pre .1) in
-    put-above (s .args .n) (s .args .w) (s .args .i) (j .first-nonzero .result) (a .row-start .result)
-    (now (s .args .cells)) (r .row-copy .result) (s .pre .0 .left) (r .row-copy .ensures .0)
-    (j .first-nonzero .ensures) (b .subtract-multiples .last .0) (s .pre .1) (a .row-start .ensures) len
-    (c .before .before .before .before .before .if1 .taken)
-    (b .subtract-multiples .kept .0 ∙ length-take-le (a .row-start .result) (now (s .args .cells)) (omega (arith, a .row-start .ensures)))
-    (b .subtract-multiples .ensures)
+    let t = b .before .before .before in
+    let j = t .before in
+    let r = j .before .before in
+    let s = begin r in
+    let a = s .args in
+    put-above (a .n) (a .w) (a .i) (j .first-nonzero .result) (a .start) (now (a .cells)) (r .row-copy .result)
+    (s .pre .0 .left) (copied r) (j .first-nonzero .ensures) (b .subtract-multiples .last .0) (s .pre .1) (s .pre .2)
+    (own-length r) (t .if1 .taken) (b .subtract-multiples .kept .0 ∙ front-length r) (b .subtract-multiples .ensures)
 
 same-length-2 : tie.Need-same-length-2
 same-length-2 c = search needs
@@ -124,18 +145,22 @@ same-length-2 c = search needs
 returns-2 : tie.Need-returns-2
 returns-2 c =
     let j = c .before in
-    let r = c .before .before .before .before in
-    let s = c .before .before .before .before .before .before .before in
-    put-none (s .args .n) (s .args .w) (s .args .i) (j .first-nonzero .result)
-    (c .before .before .before .row-start .result) (now (s .args .cells)) (r .row-copy .result) (s .pre .0 .left)
-    (r .row-copy .ensures .0) (j .first-nonzero .ensures) (c .if1 .left)
+    let r = j .before .before in
+    let s = begin r in
+    let a = s .args in
+    put-none (a .n) (a .w) (a .i) (j .first-nonzero .result) (a .start) (now (a .cells)) (r .row-copy .result)
+    (s .pre .0 .left) (copied r) (j .first-nonzero .ensures) (c .if1 .left)
 
 pub clear-above-spec : {M : Type 1} → statement M
 clear-above-spec =
     tie.close
     (tie.spec
+    add-end
+    mul-row-copy
+    sub-row-copy
+    part-row-copy-start
+    part-row-copy-end
     row-copy-requires
-    row-start-requires
     array-share-prefix-row
     slice-aggregate-first-nonzero
     first-nonzero-requires
