@@ -1,16 +1,17 @@
 -- The files' states after a peptide's row, and the rows of all peptides one after the other.
-use mathlib.Core.Path.{_≡_, refl, sym, ap, ap₂, _∙_, subst}
+use mathlib.Core.Path.{_≡_, refl, sym, ap, _∙_}
 use mathlib.Core.Bool.{Bool, true, false, cond}
-use mathlib.Core.List.{List, [], _∷_, map, foldl}
+use mathlib.Core.List.{List, [], _∷_}
 use mathlib.Core.Option.{Option}
 use Prim.Native.Nat.{ℕ, zero, suc, _+_, _-_, _*_, _≤_, _<_}
-use native.Mathlib.Nat.{not-suc-le-zero}
+use native.Mathlib.Nat.{not-suc-le-zero, suc-mul}
 use native.Mathlib.Omega.{arith}
 use lib.ListN.{length, take, drop}
 use lib.Seq.{drop-drop}
 use lib.Ieee.{Float, binary64}
 use Rattle.float.specs.Value.{isNormal}
 use Rattle.matrix.specs.Rows.{rowsOf}
+use Rattle.matrix.proofs.Laws.{row-end}
 use Rattle.rt_matrix.specs.Line.{mean}
 use Rattle.matrix.specs.Lists.{zipped}
 use Rattle.rt_matrix.specs.Cells.{sharesOf, rowShares, atCell, afterRow}
@@ -33,12 +34,19 @@ module _ {A : Type 0} (step : A → Float → Float → A) (states : List A) (ro
 
 -- ---- the rows that are left, from a place on
 
+-- of n peptides so many are left, and `at` is the first cell of the first of them
+abbrev pub At : (files n at left : ℕ) → Type 0
+At files n at left = (left ≤ n) × (at ≡ (n - left) * files)
+
 module _ (ms : List ℕ) (cells : List Float) where
-  -- where the next row ends
-  pub next-row : (at left : ℕ) → 0 < left → at + left * length ms ≡ length cells
-      → (at + length ms ≤ length cells) × (at + length ms + (left - 1) * length ms ≡ length cells)
-  next-row at zero h e = absurd (not-suc-le-zero h)
-  next-row at (suc n) h e = let less : suc n - 1 ≡ n = omega arith in (omega arith, rw less (omega arith))
+  -- its row ends within the cells, and there the next one starts
+  pub next-row : (n at left : ℕ) → length cells ≡ n * length ms → 0 < left → At (length ms) n at left
+      → (at + length ms ≤ length cells) × At (length ms) n (at + length ms) (left - 1)
+  next-row n at left l h e =
+      let next : n - (left - 1) ≡ suc (n - left) = omega arith in (
+        omega (arith, row-end (length ms) n (n - left) (omega arith), e .1),
+        (omega arith, rw (next, suc-mul) (ap (λ (k : ℕ). k + length ms) (e .1))),
+      )
 
   -- the first row that is left and the others
   pub rows-left : (at left : ℕ) → 0 < left

@@ -1,22 +1,22 @@
 -- `rt_matrix::squares::add_peptides` meets its contract. The loop's invariant: the squares, carried on over the rows
--- that are left, give what the whole gives.
+-- that are left, give what the whole gives; the first of these rows starts at `at` (`At`).
 use mathlib.Core.Path.{_≡_, refl, sym, ap, _∙_}
 use mathlib.Core.List.{List, foldl}
-use Prim.Native.Nat.{ℕ, _+_, _-_, _*_, _≤_, _<_}
-use native.Mathlib.Nat.{add-sub-cancel-left}
+use Prim.Native.Nat.{ℕ, _+_, _-_, _≤_}
+use native.Mathlib.Nat.{add-sub-cancel-left, le-refl, sub-self, zero-mul}
 use native.Mathlib.Omega.{arith}
 use borrow.Author.Needs.{needs}
 use denote.Ref.{now}
 use lib.ListN.{length, take, drop, length-drop}
 use lib.Seq.{length-take-le}
 use Rattle.rt_matrix.specs.Cells.{Spread, sharesOf, rowShares, afterRow, addSquare, spreadsOf}
-use Rattle.rt_matrix.proofs.Peptides.{next-row, rows-left, rows-done}
+use Rattle.rt_matrix.proofs.Peptides.{At, next-row, rows-left, rows-done}
 use Rattle.rt_matrix.proofs.squares.add_peptides.Statement.{statement}
 use Rattle.rt_matrix.proofs.squares.add_peptides.Tie as tie
 
 abbrev Inv-loop : tie.InvT-loop
 Inv-loop cells max peptides x-mean sx2₀ files at₀ left₀ sx2 at left =
-    (at + left * length max ≡ length cells)
+    At (length max) peptides at left
     × (length sx2 ≡ length max)
     ×
     (foldl (afterRow addSquare) (spreadsOf x-mean sx2) (rowShares max left (drop at cells)) ≡ foldl (afterRow addSquare) (spreadsOf x-mean sx2₀) (rowShares max peptides cells))
@@ -29,16 +29,23 @@ abbrev start : tie.At-loop Inv-loop μ-loop → tie.Start Inv-loop μ-loop
 start at = at .before .before .before .before .before
 
 loop-holds : tie.Need-loop-holds Inv-loop μ-loop
-loop-holds c = (omega arith, search needs, refl)
+loop-holds c = ((le-refl _, rw (sub-self, zero-mul)), search needs, refl)
+
+-- the row of the first peptide that is left, and where the next one starts
+here : (c : tie.In-loop Inv-loop μ-loop)
+    → let s = start (c .before) in let l = c .before .loop in let files = length (now (s .args .max)) in
+    (l .at + files ≤ length (now (s .args .cells))) × At files (s .args .peptides) (l .at + files) (l .left - 1)
+here c =
+    let s = start (c .before) in
+    let l = c .before .loop in
+    next-row (now (s .args .max)) (now (s .args .cells)) (s .args .peptides) (l .at) (l .left) (s .pre .0)
+    (c .loop-test .taken) (l .inv .0)
 
 add-end : tie.Need-add-end Inv-loop μ-loop
-add-end c =
-    let a = start (c .before) .args in
-    omega
-    (arith, next-row (now (a .max)) (now (a .cells)) (c .before .loop .at) (c .before .loop .left) (c .loop-test .taken) (c .before .loop .inv .0) .0)
+add-end c = omega (arith, here c .0)
 
 mul-add-peptide : tie.Need-mul-add-peptide Inv-loop μ-loop
-mul-add-peptide c = search needs
+mul-add-peptide c = omega (arith, here c .0)
 
 sub-add-peptide : tie.Need-sub-add-peptide Inv-loop μ-loop
 sub-add-peptide c = search needs
@@ -47,10 +54,7 @@ part-add-peptide-start : tie.Need-part-add-peptide-start Inv-loop μ-loop
 part-add-peptide-start c = search needs
 
 part-add-peptide-end : tie.Need-part-add-peptide-end Inv-loop μ-loop
-part-add-peptide-end c =
-    let a = start (c .before) .args in
-    next-row (now (a .max)) (now (a .cells)) (c .before .loop .at) (c .before .loop .left) (c .loop-test .taken)
-    (c .before .loop .inv .0) .0
+part-add-peptide-end c = here c .0
 
 add-peptide-requires : tie.Need-add-peptide-requires Inv-loop μ-loop
 add-peptide-requires c κs =
@@ -58,8 +62,7 @@ add-peptide-requires c κs =
     let at = t .before in
     let s = start at in
     let ms = now (s .args .max) in
-    let row =
-    next-row ms (now (s .args .cells)) (at .loop .at) (at .loop .left) (t .loop-test .taken) (at .loop .inv .0) .0 in
+    let row = here t .0 in
     (length-take-le _ _ (simp length-drop (omega arith)) ∙ add-sub-cancel-left (at .loop .at) (length ms), s .pre .1, at .loop .inv .1, s .pre .3)
 
 sub-left : tie.Need-sub-left Inv-loop μ-loop
@@ -79,7 +82,7 @@ loop-again c =
     let cells = now (s .args .cells) in
     let now-at = spreadsOf (now (s .args .x-mean)) (at .loop .sx2) in
     let e = r .add-peptide .ensures ∙ ap (λ (n : ℕ). afterRow addSquare now-at (sharesOf ms (take n (drop (at .loop .at) cells)))) (add-sub-cancel-left (at .loop .at) (length ms)) in (
-      next-row ms cells (at .loop .at) (at .loop .left) (t .loop-test .taken) (inv .0) .1,
+      here t .1,
       r .add-peptide .kept .1 .1 .1 .0 ∙ inv .1,
       ap
           (λ (l : List Spread). foldl (afterRow addSquare) l (rowShares ms (at .loop .left - 1) (drop (at .loop .at + length ms) cells))) e
