@@ -95,7 +95,8 @@ module _ {A : Type 0} (m : ℕ) (rows : List A → List (List A)) (start wide : 
 module _ {A : Type 0} (w n i a : ℕ) (cells : List A) (h : i < n) (l : length cells ≡ n * w) (e : a ≡ i * w) where
   lent-length : length (take (a + w - a) (drop a cells)) ≡ w
   lent-length =
-      part-length a (a + w - a) cells (omega (arith, row-end w n i h, add-sub-cancel-left a w)) ∙ add-sub-cancel-left a w
+      let v : a + w - a ≡ w = add-sub-cancel-left a w in
+      part-length a (a + w - a) cells (omega (arith, row-end w n i h)) ∙ v
 
   -- the front of a copy of it is row i
   pub copied-row : (copy : List A)

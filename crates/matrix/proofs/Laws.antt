@@ -389,8 +389,9 @@ module _ {A : Type 0} where
   -- after the cells of the first i rows stand those of the others: row i starts there
   pub drop-flat : (rows : List (List A)) (i : ℕ) → drop (length (flat (take i rows))) (flat rows) ≡ flat (drop i rows)
   drop-flat rows i =
-      ap (drop (length (flat (take i rows)))) (ap flat (sym (take-append-drop i rows)) ∙ flat-append (take i rows) (drop i rows))
-      ∙ drop-at (flat (take i rows)) (flat (drop i rows)) (length (flat (take i rows))) refl
+      let k : ℕ = length (flat (take i rows)) in
+      ap (drop k) (ap flat (sym (take-append-drop i rows)) ∙ flat-append (take i rows) (drop i rows))
+      ∙ drop-at (flat (take i rows)) (flat (drop i rows)) k refl
 
   wide-take : (cols : ℕ) (rows : List (List A)) (i : ℕ) → Wide cols rows → Wide cols (take i rows)
   wide-take cols rows zero w = tt
@@ -401,9 +402,10 @@ module _ {A : Type 0} where
   pub first-cell : (cols : ℕ) (rows : List (List A)) (i : ℕ) → Wide cols rows → i ≤ length rows
       → drop (i * cols) (flat rows) ≡ flat (drop i rows)
   first-cell cols rows i w h =
-      ap (λ (k : ℕ). drop k (flat rows))
-      (ap (λ (k : ℕ). k * cols) (sym (length-take-le i rows h)) ∙ sym (length-flat cols (take i rows) (wide-take cols rows i w)))
-      ∙ drop-flat rows i
+      let many : length (flat (take i rows)) ≡ i * cols =
+      length-flat cols (take i rows) (wide-take cols rows i w)
+      ∙ ap (λ (k : ℕ). k * cols) (length-take-le i rows h) in
+      ap (λ (k : ℕ). drop k (flat rows)) (sym many) ∙ drop-flat rows i
 
   -- a row in the place of another
   pub flat-set : (cols : ℕ) (rows : List (List A)) (i : ℕ) (row : List A) → Wide cols rows → i < length rows

@@ -177,9 +177,9 @@ module _ {A : Type 0} where
   pub falling-first-cell : (w j : ℕ) (rows : List (List A)) → Falling w rows → j ≤ length rows
       → drop (fallingStart w j) (flat rows) ≡ flat (drop j rows)
   falling-first-cell w j rows f h =
-      ap (λ (k : ℕ). drop k (flat rows))
-      (ap (fallingStart w) (sym (length-take-le j rows h)) ∙ sym (length-flat-falling w (take j rows) (falling-take w j rows f)))
-      ∙ drop-flat rows j
+      let many : length (flat (take j rows)) ≡ fallingStart w j =
+      length-flat-falling w (take j rows) (falling-take w j rows f) ∙ ap (fallingStart w) (length-take-le j rows h) in
+      ap (λ (k : ℕ). drop k (flat rows)) (sym many) ∙ drop-flat rows j
 
   -- rows of one cell again and again
   pub flat-constant : (w n : ℕ) (a : A) → flat (tabulate n (λ j. replicate (w - j) a)) ≡ replicate (fallingStart w n) a

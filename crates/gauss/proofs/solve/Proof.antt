@@ -79,7 +79,9 @@ returns c =
     refused (system s) (held s) (c .before .check .result) (c .before .check .ensures) (c .if1 .taken)
 
 cell-count-requires : tie.Need-cell-count-requires
-cell-count-requires c κs = let p = within c in (omega (arith, p .order), omega (arith, p .columns), omega (arith, small c .1))
+cell-count-requires c κs =
+    let p = within c in
+    (omega (arith, p .order), omega (arith, p .columns), omega (arith, small c .1))
 
 cell-count-requires-2 : tie.Need-cell-count-requires-2
 cell-count-requires-2 c κs =
@@ -123,7 +125,8 @@ returns-2 c =
     let s = begin e in
     let l = f .last .1 .1 .1 .1 in
     let k = f .kept .1 .1 .1 .1 in
-    answered (system s) (held s) (cells e) (output-cells e) (cells-are e) (outputs-are e) (accepts (passed-by e)) (record { workspace = l .0; solution = l .1 .0 }) (f .result)
+    answered (system s) (held s) (cells e) (output-cells e) (cells-are e) (outputs-are e) (accepts (passed-by e))
+    (record { workspace = l .0; solution = l .1 .0 }) (f .result)
     (f .ensures) (k .0) (k .1 .0)
 
 pub solve-spec : {M : Type 1} → statement M

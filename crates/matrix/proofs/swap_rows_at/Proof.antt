@@ -1,14 +1,15 @@
--- `matrix::swap_rows_at` meets its contract. The loop's invariant: whichever rows i and j start at a and b, the rows are
--- the old ones with the first k cells of rows i and j exchanged.
+-- `matrix::swap_rows_at` meets its contract. The loop's invariant: whichever rows i and j start at a and b, the rows
+-- are the old ones with the first k cells of rows i and j exchanged.
 use mathlib.Core.Path.{_≡_, refl, sym, ap, _∙_}
+use mathlib.Core.List.{List}
 use Prim.Native.Nat.{ℕ, _+_, _-_, _≤_}
 use native.Mathlib.Omega.{arith}
 use native.Mathlib.Numerals.{add-one}
 use borrow.Author.Needs.{needs}
-use lib.Ieee.{nan}
+use lib.Ieee.{Float, nan}
 use lib.ListN.{length, length-set}
 use Rattle.matrix.specs.Rows.{rowsOf, swapped, TwoRows}
-use Rattle.matrix.proofs.Laws.{row-end, length-rowsOf, wide-rowsOf, wide-getD, is-flat}
+use Rattle.matrix.proofs.Laws.{Wide, row-end, length-rowsOf, wide-rowsOf, wide-getD, is-flat}
 use Rattle.matrix.proofs.Exchange.{exchanged, exchanged-none, exchanged-all, swap-suc}
 use Rattle.matrix.proofs.swap_rows_at.Statement.{statement}
 use Rattle.matrix.proofs.swap_rows_at.Tie as tie
@@ -19,7 +20,9 @@ Inv-loop cells₀ cols a b k₀ cells k =
     × (a + cols ≤ length cells₀)
     × (b + cols ≤ length cells₀)
     × (length cells ≡ length cells₀)
-    × ((t : TwoRows cols a b (length cells₀)) → rowsOf cols (t .rows) cells ≡ exchanged k (t .i) (t .j) (rowsOf cols (t .rows) cells₀))
+    ×
+    ((t : TwoRows cols a b (length cells₀))
+    → rowsOf cols (t .rows) cells ≡ exchanged k (t .i) (t .j) (rowsOf cols (t .rows) cells₀))
 
 abbrev μ-loop : tie.MeasureT-loop
 μ-loop cells₀ cols a b k₀ cells k = cols - k
@@ -77,17 +80,31 @@ add-k c = search needs
 loop-less : tie.Need-loop-less Inv-loop μ-loop
 loop-less c = search needs
 
+-- the rows as the function begins
+module _ (s : tie.Start Inv-loop μ-loop)
+    (t : TwoRows (s .args .cols) (s .args .a) (s .args .b) (length (s .args .cells .now))) where
+  abbrev old : List (List Float)
+  old = rowsOf (s .args .cols) (t .rows) (s .args .cells .now)
+
+  many : length old ≡ t .rows
+  many = length-rowsOf (s .args .cols) (t .rows) (s .args .cells .now)
+
+  wide : Wide (s .args .cols) old
+  wide = wide-rowsOf (s .args .cols) (t .rows) (s .args .cells .now) (omega (arith, t .count))
+
 loop-again : tie.Need-loop-again Inv-loop μ-loop
 loop-again c =
     let l = c .before .before .before in
-    let p = l .before .args in
+    let s = l .before in
+    let a = s .args in
     let taken = c .before .before .loop-test .taken in (
       omega arith,
       l .loop .inv .1,
       l .loop .inv .2,
       simp length-set (l .loop .inv .3),
       λ t. rw add-one
-          (swap-suc (p .cols) (t .rows) (l .loop .k) (t .i) (t .j) (p .a) (p .b) (l .loop .cells) (rowsOf (p .cols) (t .rows) (p .cells .now)) nan (l .loop .inv .4 t) (wide-rowsOf (p .cols) (t .rows) (p .cells .now) (omega (arith, t .count))) (length-rowsOf (p .cols) (t .rows) (p .cells .now)) (t .first) (t .second) taken),
+          (swap-suc (a .cols) (t .rows) (l .loop .k) (t .i) (t .j) (a .a) (a .b) (l .loop .cells) (old s t) nan
+          (l .loop .inv .4 t) (wide s t) (many s t) (t .first) (t .second) taken),
     )
 
 same-length : tie.Need-same-length Inv-loop μ-loop
@@ -96,13 +113,17 @@ same-length c = search needs
 returns : tie.Need-returns Inv-loop μ-loop
 returns c t =
     let l = c .before in
-    let p = l .before .args in
-    let rows = rowsOf (p .cols) (t .rows) (p .cells .now) in
-    let n : length rows ≡ t .rows = length-rowsOf (p .cols) (t .rows) (p .cells .now) in
-    let wide = wide-rowsOf (p .cols) (t .rows) (p .cells .now) (omega (arith, t .count)) in
-    let k : l .loop .k ≡ p .cols = omega arith in
-    is-flat (p .cols) (t .rows) (l .loop .cells) (swapped (t .i) (t .j) rows) (l .loop .inv .3 ∙ t .count)
-    (l .loop .inv .4 t ∙ ap (λ (m : ℕ). exchanged m (t .i) (t .j) rows) k ∙ exchanged-all (p .cols) (t .i) (t .j) rows (wide-getD (p .cols) rows (t .i) wide (omega (arith, t .first .0))) (wide-getD (p .cols) rows (t .j) wide (omega (arith, t .second .0))))
+    let s = l .before in
+    let cols : ℕ = s .args .cols in
+    let rows = old s t in
+    let n : length rows ≡ t .rows = many s t in
+    let k : l .loop .k ≡ cols = omega arith in
+    let exchanged-rows : rowsOf cols (t .rows) (l .loop .cells) ≡ swapped (t .i) (t .j) rows =
+    l .loop .inv .4 t
+    ∙ ap (λ (m : ℕ). exchanged m (t .i) (t .j) rows) k
+    ∙ exchanged-all cols (t .i) (t .j) rows (wide-getD cols rows (t .i) (wide s t) (omega (arith, t .first .0)))
+    (wide-getD cols rows (t .j) (wide s t) (omega (arith, t .second .0))) in
+    is-flat cols (t .rows) (l .loop .cells) (swapped (t .i) (t .j) rows) (l .loop .inv .3 ∙ t .count) exchanged-rows
 
 pub swap-rows-at-spec : {M : Type 1} → statement M
 swap-rows-at-spec =

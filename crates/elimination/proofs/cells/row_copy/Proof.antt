@@ -1,8 +1,8 @@
 -- `elimination::cells::row_copy` meets its contract: the first cells of the array are the row.
-use mathlib.Core.Path.{sym, ap, _∙_}
+use mathlib.Core.Path.{_≡_, sym, ap, _∙_}
 use Prim.Native.Nat.{ℕ}
 use native.Mathlib.Omega.{arith}
-use lib.ListN.{length, drop}
+use lib.ListN.{length, take, drop}
 use lib.Seq.{length-take-le, length-front, take-at}
 use denote.Ref.{now}
 use borrow.Author.Needs.{needs}
@@ -15,16 +15,16 @@ blank-row-requires c κs = search needs
 array-borrow-prefix-own : tie.Need-array-borrow-prefix-own
 array-borrow-prefix-own c = search needs
 
+-- the part of the array that was lent is as long as the row
+part-is : (c : tie.After-own)
+    → let w = length (now (c .before .before .before .args .row)) in length (take w (c .before .blank-row .result)) ≡ w
+part-is c = length-take-le _ _ (omega (arith, c .before .before .before .pre, c .before .blank-row .ensures))
+
 slice-aggregate-copy : tie.Need-slice-aggregate-copy
-slice-aggregate-copy c =
-    let s = c .before .before .before in
-    sym (length-take-le (length (now (s .args .row))) (c .before .blank-row .result) (omega (arith, s .pre, c .before .blank-row .ensures)))
+slice-aggregate-copy c = sym (part-is c)
 
 copy-requires : tie.Need-copy-requires
-copy-requires c κs =
-    let s = c .before .before .before in
-    length-take-le (length (now (s .args .row))) (c .before .blank-row .result)
-    (omega (arith, s .pre, c .before .blank-row .ensures))
+copy-requires c κs = part-is c
 
 returns : tie.Need-returns
 returns c =

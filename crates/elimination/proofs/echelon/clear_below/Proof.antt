@@ -66,7 +66,8 @@ module _ (c : tie.After-row-copy) where
 
   own-length : length (take (begin .args .w) (c .row-copy .result)) ≡ begin .args .w
   own-length =
-      length-take-le (begin .args .w) (c .row-copy .result) (omega (arith, begin .pre .0 .wide, c .row-copy .ensures .1))
+      length-take-le (begin .args .w) (c .row-copy .result)
+      (omega (arith, begin .pre .0 .wide, c .row-copy .ensures .1))
 
 add-end : tie.Need-add-end
 add-end c = omega (arith, row-within (c .before))

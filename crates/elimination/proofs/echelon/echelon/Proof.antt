@@ -76,8 +76,14 @@ abbrev μ-loop : tie.MeasureT-loop
 
 loop-holds : tie.Need-loop-holds Inv-loop μ-loop
 loop-holds c =
-    let s = c .before in
-    (search needs, sym (zero-mul _), search needs, refl, ap (λ (m : ℕ). echelonFrom m 0 0 (rowsOf (s .args .w) (s .args .n) (now (s .args .cells)))) (sub-zero (s .args .n)))
+    let a = c .before .args in
+    let rows : List (List Float) = rowsOf (a .w) (a .n) (now (a .cells)) in (
+      search needs,
+      sym (zero-mul _),
+      search needs,
+      refl,
+      ap (λ (m : ℕ). echelonFrom m 0 0 rows) (sub-zero (a .n)),
+    )
 
 pivot-requires : tie.Need-pivot-requires Inv-loop μ-loop
 pivot-requires c κs =
@@ -95,8 +101,10 @@ module _ (c : tie.After-pivot Inv-loop μ-loop) where
 
   row : c .pivot .result < begin .args .n
   row =
-      omega
-      (arith, c .pivot .ensures, pivot-row (begin .args .n) (begin .args .w) (turn .loop .h) (turn .loop .k) (turn .loop .cells) (c .before .before .loop-test .taken) (omega arith))
+      let a = begin .args in
+      let l = turn .loop in
+      let p = pivot-row (a .n) (a .w) (l .h) (l .k) (l .cells) (c .before .before .loop-test .taken) (omega arith) in
+      omega (arith, c .pivot .ensures)
 
   within : (c .pivot .result * begin .args .w + begin .args .w ≤ length (now (begin .args .cells)))
       × (length (now (begin .args .cells)) ≤ 10800)
@@ -113,7 +121,9 @@ mul-if1 : tie.Need-mul-if1 Inv-loop μ-loop
 mul-if1 c = omega (arith, within (c .before), c .cell-count .ensures)
 
 slice-read-if1 : tie.Need-slice-read-if1 Inv-loop μ-loop
-slice-read-if1 c = omega (arith, within (c .before .before), c .before .cell-count .ensures, begin (c .before .before) .pre .left)
+slice-read-if1 c =
+    let p = c .before .before in
+    omega (arith, within p, c .before .cell-count .ensures, begin p .pre .left)
 
 add-k : tie.Need-add-k Inv-loop μ-loop
 add-k c = omega (arith, begin (c .before .before .before) .pre .order)
@@ -125,14 +135,16 @@ loop-again : tie.Need-loop-again Inv-loop μ-loop
 loop-again c =
     let n = c .before .before in
     let p = n .before in
-    let l = turn p in
-    let s = begin p in (
+    let l = turn p .loop in
+    let a = begin p .args in
+    let t : l .k < a .n = p .before .before .loop-test .taken in (
       omega arith,
-      l .loop .inv .1,
+      l .inv .1,
       omega arith,
-      l .loop .inv .3,
-      passed (s .args .n) (s .args .w) (l .loop .h) (l .loop .k) (p .pivot .result) (n .cell-count .result) (l .loop .cells) (p .before .before .loop-test .taken) (omega arith) (s .pre .left) (p .pivot .ensures) (n .cell-count .ensures) (c .if1 .taken)
-          ∙ l .loop .inv .4,
+      l .inv .3,
+      passed (a .n) (a .w) (l .h) (l .k) (p .pivot .result) (n .cell-count .result) (l .cells) t (omega arith)
+          (begin p .pre .left) (p .pivot .ensures) (n .cell-count .ensures) (c .if1 .taken)
+          ∙ l .inv .4,
     )
 
 -- row h and the pivot row, by their starts
@@ -191,15 +203,20 @@ loop-again-2 c =
     let s = begin p in
     let a = s .args in
     let t : l .k < a .n = p .before .before .loop-test .taken in
-    let rows : rowsOf (a .w) (a .n) (b .last .0) ≡ clearBelow (l .h) (l .k) (swapped (l .h) (p .pivot .result) (rowsOf (a .w) (a .n) (l .cells))) =
-    b .ensures
-    ∙ ap (clearBelow (l .h) (l .k))
-    (ap (rowsOf (a .w) (a .n)) (x .ensures (two-rows n)) ∙ swapped-rows (a .w) (a .n) (l .h) (p .pivot .result) (l .cells) (omega arith) (row p) (l .inv .3 ∙ s .pre .count)) in (
+    let i : ℕ = p .pivot .result in
+    let old : List (List Float) = rowsOf (a .w) (a .n) (l .cells) in
+    let exchanged : rowsOf (a .w) (a .n) (x .last .0) ≡ swapped (l .h) i old =
+    ap (rowsOf (a .w) (a .n)) (x .ensures (two-rows n))
+    ∙ swapped-rows (a .w) (a .n) (l .h) i (l .cells) (omega arith) (row p) (l .inv .3 ∙ s .pre .count) in
+    let rows : rowsOf (a .w) (a .n) (b .last .0) ≡ clearBelow (l .h) (l .k) (swapped (l .h) i old) =
+    b .ensures ∙ ap (clearBelow (l .h) (l .k)) exchanged in (
       omega arith,
       next-start (l .at-h) (l .h) (a .w) (l .inv .1),
       omega arith,
       b .kept .0 ∙ x .kept .0 ∙ l .inv .3,
-      found (a .n) (a .w) (l .h) (l .k) (p .pivot .result) (n .cell-count .result) (l .cells) t (omega arith) (s .pre .left) (p .pivot .ensures) (n .cell-count .ensures) (b .last .0) (c .before .before .before .before .before .before .before .before .if1 .left) rows
+      found (a .n) (a .w) (l .h) (l .k) i (n .cell-count .result) (l .cells) t (omega arith) (s .pre .left)
+          (p .pivot .ensures) (n .cell-count .ensures) (b .last .0)
+          (c .before .before .before .before .before .before .before .before .if1 .left) rows
           ∙ l .inv .4,
     )
 

@@ -26,41 +26,59 @@ row-used n i rows new h e =
 
 abbrev Inv-loop : tie.InvT-loop
 Inv-loop cells₀ n w i₀ at₀ cells i at =
-    (i ≤ n) × (at ≡ i * w) × (length cells ≡ length cells₀) × (backfillFrom n i (rowsOf w n cells) ≡ backfill n (rowsOf w n cells₀))
+    (i ≤ n)
+    × (at ≡ i * w)
+    × (length cells ≡ length cells₀)
+    × (backfillFrom n i (rowsOf w n cells) ≡ backfill n (rowsOf w n cells₀))
 
 abbrev μ-loop : tie.MeasureT-loop
 μ-loop cells₀ n w i₀ at₀ cells i at = i
 
 loop-holds : tie.Need-loop-holds Inv-loop μ-loop
 loop-holds c =
-    let s = c .before in
-    let rows : List (List Float) = rowsOf (s .args .w) (s .args .n) (now (s .args .cells)) in
-    (le-refl (s .args .n), s .pre .count, refl, ap (λ (m : ℕ). backfillFrom (s .args .n) m rows) (sym (length-rowsOf (s .args .w) (s .args .n) (now (s .args .cells)))))
+    let a = c .before .args in
+    let cells = now (a .cells) in (
+      le-refl (a .n),
+      c .before .pre .count,
+      refl,
+      ap (λ (m : ℕ). backfillFrom (a .n) m (rowsOf (a .w) (a .n) cells)) (sym (length-rowsOf (a .w) (a .n) cells)),
+    )
 
 sub-i : tie.Need-sub-i Inv-loop μ-loop
 sub-i c = search needs
 
+-- the row above starts a row's length before
+above : (c : tie.In-loop Inv-loop μ-loop)
+    → let l = c .before .loop in let w = c .before .before .before .args .w in
+    (w ≤ l .at) × (l .at - w ≡ (l .i - 1) * w)
+above c =
+    let l = c .before .loop in
+    previous-start (l .at) (l .i) (c .before .before .before .args .w) (c .loop-test .taken) (l .inv .1)
+
 sub-at : tie.Need-sub-at Inv-loop μ-loop
-sub-at c = let l = c .before in omega (arith, previous-start (l .loop .at) (l .loop .i) _ (omega arith) (l .loop .inv .1) .0)
+sub-at c = omega (arith, above c .0)
 
 clear-above-requires : tie.Need-clear-above-requires Inv-loop μ-loop
 clear-above-requires c κs =
     let l = c .before .before in
     let s = l .before .before in
-    (shape-kept (s .pre) (l .loop .inv .2), omega arith, previous-start (l .loop .at) (l .loop .i) (s .args .w) (omega arith) (l .loop .inv .1) .1)
+    (shape-kept (s .pre) (l .loop .inv .2), omega arith, above (c .before) .1)
 
 loop-less : tie.Need-loop-less Inv-loop μ-loop
 loop-less c = search needs
 
 loop-again : tie.Need-loop-again Inv-loop μ-loop
 loop-again c =
-    let l = c .before .before .before .before .before in
-    let s = l .before .before in
+    let t = c .before .before .before .before in
+    let l = t .before in
+    let a = l .before .before .args in
     let b = c .before .before in (
       omega arith,
-      previous-start (l .loop .at) (l .loop .i) (s .args .w) (omega arith) (l .loop .inv .1) .1,
+      above t .1,
       b .clear-above .kept .0 ∙ l .loop .inv .2,
-      row-used (s .args .n) (l .loop .i) (rowsOf (s .args .w) (s .args .n) (l .loop .cells)) (rowsOf (s .args .w) (s .args .n) (b .clear-above .last .0)) (c .before .before .before .before .loop-test .taken) (b .clear-above .ensures) ∙ l .loop .inv .3,
+      row-used (a .n) (l .loop .i) (rowsOf (a .w) (a .n) (l .loop .cells))
+          (rowsOf (a .w) (a .n) (b .clear-above .last .0)) (t .loop-test .taken) (b .clear-above .ensures)
+          ∙ l .loop .inv .3,
     )
 
 same-length : tie.Need-same-length Inv-loop μ-loop

@@ -1,6 +1,6 @@
 -- `rt_matrix::sums::add_peptides` meets its contract. The loop's invariant: the sums, carried on over the rows that
--- are left, give what the whole gives; the first of these rows starts at `at` (`At`); and a file has counted at most one
--- point for each row that is done.
+-- are left, give what the whole gives; the first of these rows starts at `at` (`At`); and a file has counted at most
+-- one point for each row that is done.
 use mathlib.Core.Path.{_≡_, refl, sym, ap, _∙_}
 use mathlib.Core.List.{List, foldl}
 use Prim.Native.Nat.{ℕ, _+_, _-_, _≤_, _<_, _^_}
@@ -95,10 +95,13 @@ loop-again c =
     ∙ ap
     (λ (n : ℕ). afterRow addPoint (sumsOf (at .loop .len) (at .loop .dot) (at .loop .sum-x) (at .loop .sum-y)) (sharesOf ms (take n (drop (at .loop .at) cells))))
     (add-sub-cancel-left (at .loop .at) (length ms)) in
-    let z : Sized (length ms) (r .add-peptide .last .1 .1 .0) (r .add-peptide .last .1 .1 .1 .0) (r .add-peptide .last .1 .1 .1 .1 .0) (r .add-peptide .last .1 .1 .1 .1 .1 .0) = record { len = r .add-peptide .kept .1 .1 .0 ∙ inv .1 .len; dot = r .add-peptide .kept .1 .1 .1 .0 ∙ inv .1 .dot; sumX = r .add-peptide .kept .1 .1 .1 .1 .0 ∙ inv .1 .sumX; sumY = r .add-peptide .kept .1 .1 .1 .1 .1 .0 ∙ inv .1 .sumY } in (
+    let z : Sized (length ms) (r .add-peptide .last .1 .1 .0) (r .add-peptide .last .1 .1 .1 .0) (r .add-peptide .last .1 .1 .1 .1 .0) (r .add-peptide .last .1 .1 .1 .1 .1 .0) = record { len = r .add-peptide .kept .1 .1 .0 ∙ inv .1 .len; dot = r .add-peptide .kept .1 .1 .1 .0 ∙ inv .1 .dot; sumX = r .add-peptide .kept .1 .1 .1 .1 .0 ∙ inv .1 .sumX; sumY = r .add-peptide .kept .1 .1 .1 .1 .1 .0 ∙ inv .1 .sumY } in
+    let counted =
+    one-more (length ms) (at .loop .len) (at .loop .dot) (at .loop .sum-x) (at .loop .sum-y) (inv .1) _ _ _ _ z
+    (sharesOf ms row) e in (
       here t .1,
       z,
-      λ k. omega (arith, inv .2 k, one-more (length ms) (at .loop .len) (at .loop .dot) (at .loop .sum-x) (at .loop .sum-y) (inv .1) _ _ _ _ z (sharesOf ms row) e k),
+      λ k. omega (arith, inv .2 k, counted k),
       ap
           (λ (l : List Sums). foldl (afterRow addPoint) l (rowShares ms (at .loop .left - 1) (drop (at .loop .at + length ms) cells))) e
           ∙ ap
