@@ -3,10 +3,8 @@
 // order D. The equations are D rows of D + 1 cells, [cov | b]. Since cov is symmetric to the bit, each row is stored
 // from its diagonal on, in the fit's workspace: where, and what else is in it, is this crate's own.
 ghost use mathlib.Core.Path.{_≡_};
-ghost use mathlib.Core.Bool.{cond};
 ghost use mathlib.Core.List.{_++_};
 ghost use Prim.Native.Nat.{_+_, _-_, _≤_, _<_};
-ghost use lib.Dec.{ltb};
 ghost use lib.ListN.{length, take, drop};
 ghost use Rattle.matrix.specs.Rows.{flat};
 ghost use Rattle.matrix.specs.Lists.{zipped, tabulate};
@@ -177,19 +175,8 @@ pub fn r2(sums: Sums, sse: f64) -> f64
     float::canonical64(1.0 - sse / y_var)
 }
 
-// How far the stored cell for row j and column k + 1 lies from that for column k: down a column by the length of row k
-// less one, and by 1 along row j.
-fn step(d: usize, j: usize, k: usize) -> usize
-    requires { ⌜ j ≤ d ⌝ }
-    ensures { λ r. ⌜ r ≡ cond (ltb k j) (d - k) 1 ⌝ }
-{
-    if k < j {
-        return d - k;
-    }
-    1
-}
-
-// Writes the full row j, of d + 1 cells, into the cells from `to` on. The stored cells lie from `split` on.
+// Writes the full row j, of d + 1 cells, into the cells from `to` on. The stored rows lie from `split` on. The cell for
+// column k is in row min j k, which starts at `start`, and `gap` cells further.
 fn unfold_row(cells: &mut [f64], d: usize, split: usize, j: usize, to: usize)
     requires { ⌜ (j < d) × (d ≤ maxOrder) ⌝ }
     requires { ⌜ (to + (d + 1) ≤ split) × (length (now cells) ≡ split + fallingStart (d + 1) d) ⌝ }
@@ -198,12 +185,19 @@ fn unfold_row(cells: &mut [f64], d: usize, split: usize, j: usize, to: usize)
         ++ tabulate (d + 1) (mirrored rows j)
         ++ drop (to + (d + 1)) (now (cells .entry))) ⌝ }
 {
-    let mut from = split + j;
+    let mut start = split;
+    let mut gap = j;
     let mut k = 0usize;
     while k <= d {
-        cells[to + k] = cells[from];
-        from = from + step(d, j, k);
-        k += 1;
+        cells[to + k] = cells[start + gap];
+        if k < j {
+            start += d + 1 - k;
+            gap -= 1;
+            k += 1;
+        } else {
+            gap += 1;
+            k += 1;
+        }
     }
 }
 
