@@ -1,9 +1,8 @@
--- Laws of the unfolding in place: the stored row that has the cell for a row and a column of the full rows, where in it
--- the cell lies, both for the next column, and row after row written.
+-- Laws of the unfolding in place: where the stored cell for a row and a column of the full rows lies, one cell more of
+-- a row, and row after row written.
 use mathlib.Core.Path.{_≡_, sym, ap, _∙_}
 use mathlib.Core.List.{List, [], _++_, append-assoc}
 use Prim.Native.Nat.{ℕ, suc, _+_, _-_, _*_, _≤_, _<_, min, max}
-use native.Mathlib.Nat.{sub-add-eq}
 use native.Mathlib.Numerals.{add-one}
 use native.Mathlib.Omega.{arith}
 use lib.ListN.{length, getD, set, take, drop, length-append}
@@ -20,39 +19,22 @@ use Rattle.regression.proofs.Falling.{start-next, row-ends, cell-fallin
 
 -- ---- a row
 
--- where the stored row starts that has the cell for row j and column k, and how far from there the cell lies
-abbrev pub startOf : (d j k : ℕ) → ℕ
-startOf d j k = fallingStart (d + 1) (min j k)
-
-abbrev pub gapOf : (j k : ℕ) → ℕ
-gapOf j k = max j k - min j k
-
--- the place of the cell among the stored ones
+-- the place among the stored cells of that for row j and column k
 abbrev pub placeOf : (d j k : ℕ) → ℕ
-placeOf d j k = startOf d j k + gapOf j k
+placeOf d j k = fallingStart (d + 1) (min j k) + (max j k - min j k)
 
-pub first-column : (d j : ℕ) → (startOf d j 0 ≡ 0) × (gapOf j 0 ≡ j)
-unfolding fallingStart
-first-column d j =
-    let a : min j 0 ≡ 0 = omega arith in
-    (rw a, omega arith)
+-- up to the diagonal in row k, and from there on in row j
+pub place-before : (d j k : ℕ) → k ≤ j → placeOf d j k ≡ fallingStart (d + 1) k + (j - k)
+place-before d j k h =
+    let a : min j k ≡ k = omega arith in
+    let b : max j k ≡ j = omega arith in
+    rw (a, b)
 
--- the next column: down to row j, in the row after the one just left; then in row j
-pub next-row : (d j k : ℕ) → k < j
-    → (startOf d j (k + 1) ≡ startOf d j k + (d + 1 - k)) × (gapOf j (k + 1) ≡ gapOf j k - 1)
-next-row d j k l =
-    let a : min j (k + 1) ≡ suc k = omega arith in
-    let b : min j k ≡ k = omega arith in
-    let e : max j (k + 1) ≡ j = omega arith in
-    let f : max j k ≡ j = omega arith in
-    (rw (a, b) (start-next (d + 1) k), rw (a, b, e, f, ← add-one k) (sub-add-eq j k 1))
-
-pub same-row : (d j k : ℕ) → j ≤ k
-    → (startOf d j (k + 1) ≡ startOf d j k) × (gapOf j (k + 1) ≡ gapOf j k + 1)
-same-row d j k l =
-    let a : min j (k + 1) ≡ j = omega arith in
-    let b : min j k ≡ j = omega arith in
-    (rw (a, b), omega arith)
+pub place-from : (d j k : ℕ) → j ≤ k → placeOf d j k ≡ fallingStart (d + 1) j + (k - j)
+place-from d j k h =
+    let a : min j k ≡ j = omega arith in
+    let b : max j k ≡ k = omega arith in
+    rw (a, b)
 
 pub place-below : (d j k : ℕ) → j < d → k ≤ d → placeOf d j k < fallingStart (d + 1) d
 place-below d j k h l = omega (arith, row-ends (d + 1) d (min j k) (omega arith))
@@ -61,7 +43,7 @@ place-below d j k h l = omega (arith, row-ends (d + 1) d (min j k) (omega arith)
 place-cell : (d j k : ℕ) (cells : List Float) → j < d → k ≤ d
     → getD cells (placeOf d j k) nan ≡ mirrored (fallingRows (d + 1) d cells) j k
 place-cell d j k cells h l =
-    sym (cell-falling (d + 1) d (min j k) (gapOf j k) cells nan (omega arith) (omega arith))
+    sym (cell-falling (d + 1) d (min j k) (max j k - min j k) cells nan (omega arith) (omega arith))
 
 -- the full rows of what is stored from `split` on, and row j of them
 abbrev pub fullRows : (d split : ℕ) → List Float → List (List Float)

@@ -175,8 +175,29 @@ pub fn r2(sums: Sums, sse: f64) -> f64
     float::canonical64(1.0 - sse / y_var)
 }
 
-// Writes the full row j, of d + 1 cells, into the cells from `to` on. The stored rows lie from `split` on. The cell for
-// column k is in row min j k, which starts at `start`, and `gap` cells further.
+// Writes the first j cells of the full row j into the cells from `to` on: column j of the stored rows before row j,
+// which lie from `split` on. Row k starts at `start`. Answers where row j starts.
+fn unfold_column(cells: &mut [f64], d: usize, split: usize, j: usize, to: usize) -> usize
+    requires { ⌜ (j < d) × (d ≤ maxOrder) ⌝ }
+    requires { ⌜ (to + (d + 1) ≤ split) × (length (now cells) ≡ split + fallingStart (d + 1) d) ⌝ }
+    ensures { λ r. ⌜ r ≡ split + fallingStart (d + 1) j ⌝ }
+    ensures { λ _. ⌜ (let rows = fallingRows (d + 1) d (drop split (now (cells .entry))) in
+        now (cells .exit) ≡ take to (now (cells .entry))
+        ++ take j (tabulate (d + 1) (mirrored rows j))
+        ++ drop (to + j) (now (cells .entry))) ⌝ }
+{
+    let mut start = split;
+    let mut k = 0usize;
+    while k < j {
+        cells[to + k] = cells[start + (j - k)];
+        start += d + 1 - k;
+        k += 1;
+    }
+    start
+}
+
+// Writes the full row j, of d + 1 cells, into the cells from `to` on: column j of the stored rows before row j, and then
+// row j. The stored cells lie from `split` on.
 fn unfold_row(cells: &mut [f64], d: usize, split: usize, j: usize, to: usize)
     requires { ⌜ (j < d) × (d ≤ maxOrder) ⌝ }
     requires { ⌜ (to + (d + 1) ≤ split) × (length (now cells) ≡ split + fallingStart (d + 1) d) ⌝ }
@@ -185,19 +206,11 @@ fn unfold_row(cells: &mut [f64], d: usize, split: usize, j: usize, to: usize)
         ++ tabulate (d + 1) (mirrored rows j)
         ++ drop (to + (d + 1)) (now (cells .entry))) ⌝ }
 {
-    let mut start = split;
-    let mut gap = j;
-    let mut k = 0usize;
+    let start = unfold_column(cells, d, split, j, to);
+    let mut k = j;
     while k <= d {
-        cells[to + k] = cells[start + gap];
-        if k < j {
-            start += d + 1 - k;
-            gap -= 1;
-            k += 1;
-        } else {
-            gap += 1;
-            k += 1;
-        }
+        cells[to + k] = cells[start + (k - j)];
+        k += 1;
     }
 }
 

@@ -1,90 +1,86 @@
--- `regression::unfold_row` meets its contract. The loop's invariant: the first k cells of the row are written
--- (`paste`), and the stored row of the next one starts at `start`, the cell `gap` cells further.
+-- `regression::unfold_row` meets its contract. The loop's invariant: of whatever the first j cells of the full row were
+-- written over (`paste`), the first k are; the stored row j starts at `start`.
 use mathlib.Core.Path.{_≡_, refl, sym, ap, _∙_}
 use mathlib.Core.List.{List, _++_}
 use Prim.Native.Nat.{ℕ, _+_, _-_, _≤_, _<_}
-use native.Mathlib.Nat.{le-of-eq}
+use native.Mathlib.Nat.{le-of-eq, le-refl}
 use native.Mathlib.Omega.{arith}
-use lib.ListN.{length, take, drop, set, getD, length-set}
-use lib.Seq.{paste, paste-zero, take-all}
-use lib.Ieee.{Float, nan}
+use lib.ListN.{length, take, drop, length-set}
+use lib.Seq.{paste, take-all}
+use lib.Ieee.{Float}
 use denote.Ref.{now}
 use borrow.Author.Needs.{needs}
 use Rattle.matrix.proofs.Lists.{length-tabulate}
-use Rattle.regression.specs.Falling.{fallingStart}
-use Rattle.regression.proofs.Unfolding.{startOf, gapOf, first-column, next-row, same-row}
-use Rattle.regression.proofs.Unfolding.{placeOf, place-below, fullRow, one-more}
+use Rattle.regression.proofs.Unfolding.{placeOf, place-from, place-below, fullRow, one-more}
 use Rattle.regression.proofs.unfold_row.Statement.{statement}
 use Rattle.regression.proofs.unfold_row.Tie as tie
 
 abbrev Inv-loop : tie.InvT-loop
-Inv-loop cells₀ d split j to start₀ gap₀ k₀ cells start gap k =
-    (k ≤ d + 1)
-    × (start ≡ split + startOf d j k)
-    × (gap ≡ gapOf j k)
-    × (cells ≡ paste cells₀ to (fullRow d split cells₀ j) k)
+Inv-loop cells₀ d split j to start k₀ cells k =
+    (j ≤ k)
+    × (k ≤ d + 1)
     × (length cells ≡ length cells₀)
+    ×
+    ((old : List Float) → length old ≡ length cells₀ → cells₀ ≡ paste old to (fullRow d split old j) j
+    → cells ≡ paste old to (fullRow d split old j) k)
 
 abbrev μ-loop : tie.MeasureT-loop
-μ-loop cells₀ d split j to start₀ gap₀ k₀ cells start gap k = d + 1 - k
+μ-loop cells₀ d split j to start k₀ cells k = d + 1 - k
+
+-- where the first j cells are written, and where the function begins
+abbrev column : tie.At-loop Inv-loop μ-loop → tie.After-unfold-column Inv-loop μ-loop
+column l = l .before .before .before
+
+abbrev begin : tie.At-loop Inv-loop μ-loop → tie.Start Inv-loop μ-loop
+begin l = column l .before .before .before
+
+unfold-column-requires : tie.Need-unfold-column-requires Inv-loop μ-loop
+unfold-column-requires c κs = c .before .before .pre
 
 loop-holds : tie.Need-loop-holds Inv-loop μ-loop
-loop-holds c =
-    let a = c .args in
-    let first = first-column (a .d) (a .j) in (
-      search needs,
-      omega (arith, first .0),
-      sym (first .1),
-      paste-zero (now (a .cells)) (a .to) (fullRow (a .d) (a .split) (now (a .cells)) (a .j)),
-      refl,
-    )
+loop-holds c = (le-refl _, search needs, refl, λ old l e. e)
 
--- a turn: the cell that it reads is a stored one, and the one that it writes is not
+-- the cell that a turn reads is a stored one, and the one that it writes is not
 module _ (t : tie.In-loop Inv-loop μ-loop) where
-  below : let a = t .before .before .args in
-      placeOf (a .d) (a .j) (t .before .loop .k) < fallingStart (a .d + 1) (a .d)
-  below =
-      let a = t .before .before .args in
-      place-below (a .d) (a .j) (t .before .loop .k) (omega arith) (omega arith)
+  abbrev here : ℕ
+  here = column (t .before) .unfold-column .result + (t .before .loop .k - begin (t .before) .args .j)
 
-  written : let a = t .before .before .args in let l = t .before .loop in
-      set (l .cells) (a .to + l .k) (getD (l .cells) (l .start + l .gap) nan)
-      ≡ paste (now (a .cells)) (a .to) (fullRow (a .d) (a .split) (now (a .cells)) (a .j)) (l .k + 1)
-  written =
-      let a = t .before .before .args in
+  at : let a = begin (t .before) .args in here ≡ a .split + placeOf (a .d) (a .j) (t .before .loop .k)
+  at =
+      let a = begin (t .before) .args in
       let l = t .before .loop in
-      one-more (a .d) (a .j) (l .k) (a .split) (a .to) (l .start + l .gap) (now (a .cells)) (l .cells)
-      (omega arith) (omega arith) (omega arith) (omega arith) (omega (arith, l .inv .1, l .inv .2)) (l .inv .3)
+      omega (arith, column (t .before) .unfold-column .ensures .0, place-from (a .d) (a .j) (l .k) (l .inv .0))
+
+  whole : length (t .before .loop .cells) ≡ length (now (begin (t .before) .args .cells))
+  whole = t .before .loop .inv .2 ∙ column (t .before) .unfold-column .kept .0
+
+  below : here < length (now (begin (t .before) .args .cells))
+  below =
+      let s = begin (t .before) in
+      let a = s .args in
+      let p = place-below (a .d) (a .j) (t .before .loop .k) (s .pre .0 .0) (omega arith) in
+      omega (arith, at, p, s .pre .1)
+
+sub-cells : tie.Need-sub-cells Inv-loop μ-loop
+sub-cells c = search needs
 
 add-cells : tie.Need-add-cells Inv-loop μ-loop
 add-cells c = omega (arith, below c)
 
 mul-cells : tie.Need-mul-cells Inv-loop μ-loop
-mul-cells c = omega (arith, below c)
+mul-cells c = omega (arith, below c, whole c)
 
 slice-read-cells : tie.Need-slice-read-cells Inv-loop μ-loop
-slice-read-cells c = omega (arith, below (c .before))
+slice-read-cells c = omega (arith, below (c .before), whole (c .before))
 
 add-cells-2 : tie.Need-add-cells-2 Inv-loop μ-loop
-add-cells-2 c = omega (arith, below (c .before))
+add-cells-2 c = search needs
 
 mul-cells-2 : tie.Need-mul-cells-2 Inv-loop μ-loop
-mul-cells-2 c = omega (arith, below (c .before))
+mul-cells-2 c = search needs
 
 slice-write-cells : tie.Need-slice-write-cells Inv-loop μ-loop
-slice-write-cells c = omega (arith, below (c .before))
-
-add-start : tie.Need-add-start Inv-loop μ-loop
-add-start c = search needs
-
-sub-start : tie.Need-sub-start Inv-loop μ-loop
-sub-start c = search needs
-
-add-start-2 : tie.Need-add-start-2 Inv-loop μ-loop
-add-start-2 c = omega (arith, below (c .before .before))
-
-sub-gap : tie.Need-sub-gap Inv-loop μ-loop
-sub-gap c = search needs
+slice-write-cells c = search needs
 
 add-k : tie.Need-add-k Inv-loop μ-loop
 add-k c = search needs
@@ -94,37 +90,15 @@ loop-less c = search needs
 
 loop-again : tie.Need-loop-again Inv-loop μ-loop
 loop-again c =
-    let t = c .before .before in
+    let t = c .before in
     let l = t .before .loop in
-    let a = t .before .before .args in
-    let next = next-row (a .d) (a .j) (l .k) (c .if1 .taken) in (
+    let s = begin (t .before) in
+    let a = s .args in (
       omega arith,
-      omega (arith, l .inv .1, next .0),
-      ap (λ (n : ℕ). n - 1) (l .inv .2) ∙ sym (next .1),
-      written t,
-      simp length-set (l .inv .4),
-    )
-
-add-gap : tie.Need-add-gap Inv-loop μ-loop
-add-gap c = search needs
-
-add-k-2 : tie.Need-add-k-2 Inv-loop μ-loop
-add-k-2 c = search needs
-
-loop-less-2 : tie.Need-loop-less-2 Inv-loop μ-loop
-loop-less-2 c = search needs
-
-loop-again-2 : tie.Need-loop-again-2 Inv-loop μ-loop
-loop-again-2 c =
-    let t = c .before .before in
-    let l = t .before .loop in
-    let a = t .before .before .args in
-    let next = same-row (a .d) (a .j) (l .k) (c .if1 .left) in (
       omega arith,
-      omega (arith, l .inv .1, next .0),
-      ap (λ (n : ℕ). n + 1) (l .inv .2) ∙ sym (next .1),
-      written t,
-      simp length-set (l .inv .4),
+      simp length-set (l .inv .2),
+      λ old n e. one-more (a .d) (a .j) (l .k) (a .split) (a .to) (here t) old (l .cells) (s .pre .0 .0) (omega arith)
+          (s .pre .1 .0) (n ∙ column (t .before) .unfold-column .kept .0 ∙ s .pre .1 .1) (at t) (l .inv .3 old n e),
     )
 
 same-length : tie.Need-same-length Inv-loop μ-loop
@@ -133,11 +107,12 @@ same-length c = search needs
 returns : tie.Need-returns Inv-loop μ-loop
 returns c =
     let l = c .before .loop in
-    let a = c .before .before .args in
+    let first = column (c .before) .unfold-column in
+    let a = begin (c .before) .args in
     let old : List Float = now (a .cells) in
     let row : List Float = fullRow (a .d) (a .split) old (a .j) in
     let e : l .k ≡ a .d + 1 = omega arith in
-    l .inv .3
+    l .inv .3 old (sym (first .kept .0)) (first .ensures .1)
     ∙ ap (paste old (a .to) row) e
     ∙ ap (λ (t : List Float). take (a .to) old ++ t ++ drop (a .to + (a .d + 1)) old)
     (take-all (a .d + 1) row (le-of-eq (length-tabulate (a .d + 1) _)))
@@ -148,23 +123,17 @@ unfold-row-spec =
     (tie.spec
     Inv-loop
     μ-loop
+    unfold-column-requires
     loop-holds
+    sub-cells
     add-cells
     mul-cells
     slice-read-cells
     add-cells-2
     mul-cells-2
     slice-write-cells
-    add-start
-    sub-start
-    add-start-2
-    sub-gap
     add-k
     loop-less
     loop-again
-    add-gap
-    add-k-2
-    loop-less-2
-    loop-again-2
     same-length
     returns)
