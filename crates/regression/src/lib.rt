@@ -196,8 +196,8 @@ fn unfold_column(cells: &mut [f64], d: usize, split: usize, j: usize, to: usize)
     start
 }
 
-// Writes the full row j, of d + 1 cells, into the cells from `to` on: column j of the stored rows before row j, and then
-// row j. The stored cells lie from `split` on.
+// Writes the full row j, of d + 1 cells, into the cells from `to` on: column j of the stored rows before row j, and
+// then row j. The stored cells lie from `split` on.
 fn unfold_row(cells: &mut [f64], d: usize, split: usize, j: usize, to: usize)
     requires { ⌜ (j < d) × (d ≤ maxOrder) ⌝ }
     requires { ⌜ (to + (d + 1) ≤ split) × (length (now cells) ≡ split + fallingStart (d + 1) d) ⌝ }
