@@ -7,3 +7,4 @@ pub mod Order
 pub mod Products
 pub mod Round
 pub mod Whole
+pub mod Zeros

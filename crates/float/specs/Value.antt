@@ -1,5 +1,5 @@
 -- Tests of a value, its size, the smaller of two, and a value brought into a range. Definitions only.
-use Prim.Native.Nat.{_-_, _*_, _^_}
+use Prim.Native.Nat.{zero, suc, _-_, _*_, _^_}
 use mathlib.Core.Bool.{Bool, true, false, cond}
 use lib.Dec.{leb}
 use lib.Ieee.{Float, nan, inf, fin, Format, emax, up, down, lt, isNan}
@@ -9,6 +9,13 @@ unfoldable pub isFinite : Float → Bool
 isFinite nan = false
 isFinite (inf s) = false
 isFinite (fin s m e) = true
+
+-- +0.0 or -0.0
+unfoldable pub isZero : Float → Bool
+isZero nan = false
+isZero (inf s) = false
+isZero (fin s zero e) = true
+isZero (fin s (suc m) e) = false
 
 -- finite, and of the size of the format's smallest normal value or more, 2 ^ -126 or 2 ^ -1022: not zero and not
 -- subnormal
