@@ -8,8 +8,9 @@ ghost use lib.ListN.{length, getD, take};
 ghost use Rattle.feature.specs.Feature.{trains};
 ghost use Rattle.status.specs.Limits.{maxLetters};
 ghost use Rattle.embedding.specs.Design.{orderOf, design};
-ghost use Rattle.regression.specs.Regression.{extended, normal, addRow, sse};
-ghost use Rattle.regression.specs.Workspace.{Workspace, equations, withEquations, holding, fitSlices};
+ghost use Rattle.regression.specs.Regression.{extended, normal, sse};
+ghost use Rattle.regression.specs.Sparse.{addVisited};
+ghost use Rattle.regression.specs.Workspace.{Workspace, stored, withStored, holding, fitSlices};
 ghost use Rattle.model_fit.specs.Input.{inputAt, modelInput};
 ghost use Rattle.model_fit.specs.Samples.{sampleFrom, trainingSamples, fitOfInput};
 ghost use Rattle.model_fit.specs.Shared.{
@@ -58,7 +59,7 @@ fn put_sample(
 }
 
 // Adds a sample to the normal equations in `workspace`: the design row of a peptide's letters, log and mass and of a
-// charge, and its target. `row` is room for it.
+// charge, and its target. `row` is room for it, `places` and `starts` for the places of its cells that are not zero.
 fn add_sample(
     model: Model,
     letters: &[u8],
@@ -67,20 +68,23 @@ fn add_sample(
     charge: u8,
     y: f64,
     row: &mut [f64],
+    places: &mut [usize],
+    starts: &mut [usize],
     workspace: &mut [f64],
 )
     requires { ⌜ length (now letters) ≤ maxLetters ⌝ }
     requires { ⌜ orderOf model < length (now row) ⌝ }
+    requires { ⌜ (orderOf model < length (now places)) × (orderOf model < length (now starts)) ⌝ }
     requires { ⌜ Workspace (orderOf model) (now workspace) ⌝ }
     ensures { λ _. ⌜ (let sample = sampleFrom (design model (now (letters .entry)) log mass charge) y in
-        now (workspace .exit) ≡ withEquations (orderOf model)
-        (addRow (equations (orderOf model) (now (workspace .entry))) (extended sample))
+        now (workspace .exit) ≡ withStored (orderOf model)
+        (addVisited (stored (orderOf model) (now (workspace .entry))) (extended sample))
         (now (workspace .entry))) ⌝ }
 {
     put_sample(model, letters, log, mass, charge, y, row);
     let d = embedding::order(model);
     let w = d + 1;
-    regression::add_row(workspace, d, &row[..w]);
+    regression::add_row_sparse(workspace, d, &row[..w], places, starts);
 }
 
 // Sums the normal equations of the training rows in `workspace`, which is cleared.
@@ -105,6 +109,8 @@ fn accumulate(
         r ⌝ }
 {
     let mut row = [0.0f64; status::MAX_ORDER + 1];
+    let mut places = [0usize; status::MAX_ORDER + 1];
+    let mut starts = [0usize; status::MAX_ORDER + 1];
     let mut sums = Sums::zero();
     for i in 0..peptide.len() {
         if !trains_at(label, q, i) {
@@ -117,7 +123,18 @@ fn accumulate(
         let sequence = peptide::sequence(letters, offsets, p);
         let log = log_at(logs, p);
         let mass = mass_at(masses, p);
-        add_sample(model, sequence, log, mass, z, y, &mut row, workspace);
+        add_sample(
+            model,
+            sequence,
+            log,
+            mass,
+            z,
+            y,
+            &mut row,
+            &mut places,
+            &mut starts,
+            workspace,
+        );
         sums = sums.add(y);
     }
     sums

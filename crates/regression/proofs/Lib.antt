@@ -2,5 +2,7 @@
 pub mod Laws
 pub mod Falling
 pub mod Triangle
+pub mod Visited
+pub mod Walk
 pub mod Unfolding
 pub mod Workspace

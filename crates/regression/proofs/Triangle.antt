@@ -21,7 +21,8 @@ use Rattle.matrix.proofs.Lists.{length-zipped, getD-zipped, drop-zipped}
 use Rattle.elimination.proofs.Made.{made}
 use Rattle.regression.specs.Regression.{Sample, total, column, cov, rhs, normal, plusScaled, addRow}
 use Rattle.regression.specs.Falling.{fallingRows, fallingStart}
-use Rattle.regression.specs.Triangle.{covFrom, covTriangle, triangle, addTriangle, mirrored, unfolded, folded}
+use Rattle.regression.specs.Triangle.{covFrom, covTriangle, triangle, mirrored, unfolded, folded}
+use Rattle.regression.specs.Triangle.{addTriangleBy, addTriangle}
 use Rattle.regression.proofs.Falling.{Falling, falling-flat, length-flat-falling, falling-tabulate, falling-row}
 use Rattle.regression.proofs.Falling.{flat-constant, half-falling, one-longer}
 
@@ -124,41 +125,43 @@ folded-normal D ss =
 
 -- ---- one sample more
 
--- to a table of rows
-add-tabulate : (n : ℕ) (f : ℕ → List Float) (ext : List Float) → n ≤ length ext
-    → addTriangle (tabulate n f) ext ≡ tabulate n (λ j. zipped (plusScaled (getD ext j nan)) (f j) (drop j ext))
-unfolding tabulate addTriangle
-add-tabulate zero f ext h = refl
-add-tabulate (suc n) f [] h = absurd (not-suc-le-zero h)
-add-tabulate (suc n) f (x ∷ ext) h =
-    ap (λ (t : List (List Float)). zipped (plusScaled x) (f 0) (x ∷ ext) ∷ t)
-    (add-tabulate n (λ j. f (suc j)) ext (le-of-suc-le-suc h))
+module _ (f : Float → Float → Float → Float) where
+  -- to a table of rows
+  add-tabulate : (n : ℕ) (rowAt : ℕ → List Float) (ext : List Float) → n ≤ length ext
+      → addTriangleBy f (tabulate n rowAt) ext ≡ tabulate n (λ j. zipped (f (getD ext j nan)) (rowAt j) (drop j ext))
+  unfolding tabulate addTriangleBy
+  add-tabulate zero rowAt ext h = refl
+  add-tabulate (suc n) rowAt [] h = absurd (not-suc-le-zero h)
+  add-tabulate (suc n) rowAt (x ∷ ext) h =
+      ap (λ (t : List (List Float)). zipped (f x) (rowAt 0) (x ∷ ext) ∷ t)
+      (add-tabulate n (λ j. rowAt (suc j)) ext (le-of-suc-le-suc h))
 
--- row after row
-pub made-add : (j : ℕ) (rows : List (List Float)) (ext : List Float) → length rows ≤ length ext → length rows ≤ j
-    → made (λ i row. zipped (plusScaled (getD ext i nan)) row (drop i ext)) j rows ≡ addTriangle rows ext
-unfolding made addTriangle
-made-add zero [] ext l h = refl
-made-add (suc j) [] ext l h = refl
-made-add zero (row ∷ rows) ext l h = absurd (not-suc-le-zero h)
-made-add (suc j) (row ∷ rows) [] l h = absurd (not-suc-le-zero l)
-made-add (suc j) (row ∷ rows) (x ∷ ext) l h =
-    ap (λ (t : List (List Float)). zipped (plusScaled x) row (x ∷ ext) ∷ t)
-    (made-add j rows ext (le-of-suc-le-suc l) (le-of-suc-le-suc h))
+  -- row after row
+  pub made-add : (j : ℕ) (rows : List (List Float)) (ext : List Float) → length rows ≤ length ext → length rows ≤ j
+      → made (λ i row. zipped (f (getD ext i nan)) row (drop i ext)) j rows ≡ addTriangleBy f rows ext
+  unfolding made addTriangleBy
+  made-add zero [] ext l h = refl
+  made-add (suc j) [] ext l h = refl
+  made-add zero (row ∷ rows) ext l h = absurd (not-suc-le-zero h)
+  made-add (suc j) (row ∷ rows) [] l h = absurd (not-suc-le-zero l)
+  made-add (suc j) (row ∷ rows) (x ∷ ext) l h =
+      ap (λ (t : List (List Float)). zipped (f x) row (x ∷ ext) ∷ t)
+      (made-add j rows ext (le-of-suc-le-suc l) (le-of-suc-le-suc h))
 
--- the rows keep their lengths
-length-add : (rows : List (List Float)) (ext : List Float) → length (addTriangle rows ext) ≡ length rows
-unfolding addTriangle
-length-add [] ext = refl
-length-add (row ∷ rows) [] = refl
-length-add (row ∷ rows) (x ∷ ext) = ap suc (length-add rows ext)
+  -- the rows keep their lengths
+  length-add : (rows : List (List Float)) (ext : List Float) → length (addTriangleBy f rows ext) ≡ length rows
+  unfolding addTriangleBy
+  length-add [] ext = refl
+  length-add (row ∷ rows) [] = refl
+  length-add (row ∷ rows) (x ∷ ext) = ap suc (length-add rows ext)
 
-falling-add : (w : ℕ) (rows : List (List Float)) (ext : List Float) → Falling w rows → Falling w (addTriangle rows ext)
-unfolding addTriangle
-falling-add w [] ext f = tt
-falling-add w (row ∷ rows) [] f = f
-falling-add w (row ∷ rows) (x ∷ ext) f =
-    (length-zipped (plusScaled x) row (x ∷ ext) ∙ f .0, falling-add (w - 1) rows ext (f .1))
+  falling-add : (w : ℕ) (rows : List (List Float)) (ext : List Float) → Falling w rows
+      → Falling w (addTriangleBy f rows ext)
+  unfolding addTriangleBy
+  falling-add w [] ext h = tt
+  falling-add w (row ∷ rows) [] h = h
+  falling-add w (row ∷ rows) (x ∷ ext) h =
+      (length-zipped (f x) row (x ∷ ext) ∙ h .0, falling-add (w - 1) rows ext (h .1))
 
 -- any rows that are stored, each from its diagonal on
 module _ (D : ℕ) (rows : List (List Float)) (count : length rows ≡ D) (shape : Falling (D + 1) rows) where
@@ -198,7 +201,7 @@ module _ (D : ℕ) (rows : List (List Float)) (count : length rows ≡ D) (shape
         ∙ drop-zipped (plusScaled (getD ext j nan)) j (full j) ext
         ∙ ap (λ (t : List Float). zipped (plusScaled (getD ext j nan)) (drop j t) (drop j ext))
         (sym (getD-tabulate D full j [] h)))
-        ∙ sym (add-tabulate D (λ j. drop j (getD (unfolded D rows) j [])) ext (omega arith))
+        ∙ sym (add-tabulate plusScaled D (λ j. drop j (getD (unfolded D rows) j [])) ext (omega arith))
 
     pub folded-add : folded D (addRow (unfolded D rows) ext) ≡ addTriangle rows ext
     folded-add = added-full ∙ ap (λ (t : List (List Float)). addTriangle t ext) folded-unfolded
@@ -216,7 +219,7 @@ module _ (D : ℕ) (rows : List (List Float)) (count : length rows ≡ D) (shape
           ≡ tabulate D (λ n. zipped (plusScaled (getD ext n nan)) (getD rows n []) (drop n ext))
       added =
           ap (λ (t : List (List Float)). addTriangle t ext) (sym (tabulate-cells D rows [] count))
-          ∙ add-tabulate D (λ n. getD rows n []) ext (omega arith)
+          ∙ add-tabulate plusScaled D (λ n. getD rows n []) ext (omega arith)
 
       stored-add : mirrored (addTriangle rows ext) j k
           ≡ plusScaled (getD ext i nan) (mirrored rows j k) (getD ext (i + c) nan)
@@ -250,8 +253,8 @@ module _ (D : ℕ) (rows : List (List Float)) (count : length rows ≡ D) (shape
     -- in one list, the rows with the sample added are found again
     pub rows-of-add : fallingRows (D + 1) D (flat (addTriangle rows ext)) ≡ addTriangle rows ext
     rows-of-add =
-        ap (λ (n : ℕ). fallingRows (D + 1) n (flat (addTriangle rows ext))) (sym (length-add rows ext ∙ count))
-        ∙ falling-flat (D + 1) (addTriangle rows ext) (falling-add (D + 1) rows ext shape)
+        ap (λ (n : ℕ). fallingRows (D + 1) n (flat (addTriangle rows ext))) (sym (length-add plusScaled rows ext ∙ count))
+        ∙ falling-flat (D + 1) (addTriangle rows ext) (falling-add plusScaled (D + 1) rows ext shape)
 
     -- the full rows with a sample added, and the stored rows with it added, unfolded: the same, whatever was stored
     pub unfolded-add : unfolded D (addTriangle rows ext) ≡ addRow (unfolded D rows) ext

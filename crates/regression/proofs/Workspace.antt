@@ -18,7 +18,8 @@ use Rattle.elimination.specs.Ridge.{Solution, solved, unsolved, written}
 use Rattle.regression.specs.Regression.{Sample, extended, normal, addRow}
 use Rattle.regression.specs.Falling.{fallingRows, fallingStart}
 use Rattle.regression.specs.Triangle.{triangle, addTriangle, unfolded, folded}
-use Rattle.regression.specs.Workspace.{workspaceCells, systemLength, stored, equations, withEquations}
+use Rattle.regression.specs.Sparse.{addVisited}
+use Rattle.regression.specs.Workspace.{workspaceCells, systemLength, stored, equations, withStored, withEquations}
 use Rattle.regression.specs.Workspace.{cleared, holding, FitSlices}
 use Rattle.regression.specs.Solve.{SolvedBy, solutionIn, ridgeOf}
 use Rattle.regression.specs.declared.FirstRidge.the-variants.{Solves, None}
@@ -26,6 +27,7 @@ use Rattle.regression.proofs.Laws.{normal-snoc}
 use Rattle.regression.proofs.Falling.{Falling, falling-rows, length-falling}
 use Rattle.regression.proofs.Triangle.{length-triangle, rows-of-triangle, triangle-nil, cells-triangle}
 use Rattle.regression.proofs.Triangle.{unfolded-triangle, unfolded-add, folded-normal, folded-add, rows-of-add}
+use Rattle.regression.proofs.Visited.{visited-triangle}
 
 -- ---- its two parts
 
@@ -48,16 +50,23 @@ module _ (D split : ℕ) (cells : List Float) (count : length cells ≡ workspac
   pub part-shape : Falling (D + 1) (stored D cells)
   part-shape = falling-rows (D + 1) D (drop (systemLength D) cells) (le-of-eq (sym part-length))
 
-  -- as it comes back, with a sample added
-  pub part-back : (acc ext : List Float) → length ext ≡ D + 1 → acc ≡ flat (addTriangle (stored D cells) ext)
-      → put split (length cells - split) acc cells ≡ withEquations D (addRow (equations D cells) ext) cells
-  unfolding withEquations
-  part-back acc ext wide e =
+  -- as it comes back, with other rows in it
+  pub part-back : (acc : List Float) (rows : List (List Float)) → acc ≡ flat rows
+      → put split (length cells - split) acc cells ≡ withStored D rows cells
+  unfolding withStored
+  part-back acc rows e =
       let rest : drop (length cells - split) (drop split cells) ≡ [] =
       drop-of-length-le (drop split cells) {i = length cells - split} (rw length-drop (omega arith)) in
-      let rows : folded D (addRow (equations D cells) ext) ≡ addTriangle (stored D cells) ext =
-      folded-add D (stored D cells) (length-falling (D + 1) D _) part-shape ext wide in
-      rw (e, rest, append-nil, is-split, rows)
+      rw (e, rest, append-nil, is-split)
+
+-- a sample added to the stored rows is added to the equations
+pub add-stored : (D : ℕ) (cells ext : List Float) → length cells ≡ workspaceCells D → length ext ≡ D + 1
+    → withStored D (addTriangle (stored D cells) ext) cells ≡ withEquations D (addRow (equations D cells) ext) cells
+add-stored D cells ext count wide =
+    ap (λ (rows : List (List Float)). withStored D rows cells)
+    (sym
+    (folded-add D (stored D cells) (length-falling (D + 1) D _) (part-shape D (systemLength D) cells count refl) ext
+    wide))
 
 -- ---- what it holds
 
@@ -65,7 +74,7 @@ module _ (D : ℕ) where
   -- equations that are put in take the place of earlier ones
   with-again : (rows rows₁ : List (List Float)) (cells : List Float) → systemLength D ≤ length cells
       → withEquations D rows₁ (withEquations D rows cells) ≡ withEquations D rows₁ cells
-  unfolding withEquations
+  unfolding withStored
   with-again rows rows₁ cells h =
       ap (λ (t : List Float). t ++ flat (folded D rows₁))
       (take-at (take (systemLength D) cells) (flat (folded D rows)) (systemLength D)
@@ -74,7 +83,7 @@ module _ (D : ℕ) where
   -- and are found again: after `add_row`, whatever it held before, the full rows have gained the sample
   pub equations-add : (cells ext : List Float) → length cells ≡ workspaceCells D → length ext ≡ D + 1
       → equations D (withEquations D (addRow (equations D cells) ext) cells) ≡ addRow (equations D cells) ext
-  unfolding withEquations
+  unfolding withStored
   equations-add cells ext count wide =
       let rows : List (List Float) = stored D cells in
       let k : ℕ = systemLength D in
@@ -93,7 +102,7 @@ module _ (D : ℕ) where
   -- cleared, it holds the equations of no sample
   pub cleared-holds : (cells : List Float) → length cells ≡ workspaceCells D
       → cleared cells ≡ holding D (normal D [])
-  unfolding withEquations
+  unfolding withStored
   cleared-holds cells e =
       let k : ℕ = systemLength D in
       let n : ℕ = fallingStart (D + 1) D in
@@ -104,7 +113,7 @@ module _ (D : ℕ) where
   module _ (ss : List Sample) where
     -- its stored rows are the triangle of the samples' equations, which unfolds to all of them
     pub stored-triangle : stored D (holding D (normal D ss)) ≡ triangle D ss
-    unfolding withEquations
+    unfolding withStored
     stored-triangle =
         let blank : List Float = replicate (workspaceCells D) zero64 in
         let rows : List Float = flat (folded D (normal D ss)) in
@@ -117,7 +126,7 @@ module _ (D : ℕ) where
     equations-normal = ap (unfolded D) stored-triangle ∙ unfolded-triangle D ss
 
     pub length-holding : length (holding D (normal D ss)) ≡ workspaceCells D
-    unfolding withEquations
+    unfolding withStored
     length-holding =
         let n = length-take-le (systemLength D) (replicate (workspaceCells D) zero64) blank-long in
         rw folded-normal (simp (length-append, length-triangle) (omega (arith, n, two-parts D)))
@@ -129,6 +138,22 @@ module _ (D : ℕ) where
         → cells₁ ≡ holding D (normal D (ss ++ s ∷ []))
     add-row-holds cells cells₁ holds s ext wide x e =
         e ∙ rw (holds, x, equations-normal, normal-snoc D ss s wide) (with-again (normal D ss) _ _ blank-long)
+
+    -- and after `add_row_sparse`
+    pub add-visited-holds : (cells cells₁ : List Float) → cells ≡ holding D (normal D ss)
+        → (s : Sample) (ext : List Float) → length (s .row) ≡ D → ext ≡ extended s
+        → cells₁ ≡ withStored D (addVisited (stored D cells) ext) cells
+        → cells₁ ≡ holding D (normal D (ss ++ s ∷ []))
+    add-visited-holds cells cells₁ holds s ext wide x e =
+        let rows : stored D cells ≡ triangle D ss = ap (stored D) holds ∙ stored-triangle in
+        let same : addVisited (stored D cells) ext ≡ addTriangle (stored D cells) ext =
+        rw rows (visited-triangle D ss ext) in
+        let count : length cells ≡ workspaceCells D = ap length holds ∙ length-holding in
+        let n : length ext ≡ D + 1 = ap length x ∙ simp length-append (omega arith) in
+        add-row-holds cells cells₁ holds s ext wide x
+        (e
+        ∙ ap (λ (t : List (List Float)). withStored D t cells) same
+        ∙ add-stored D cells ext count n)
 
 -- ---- what the answer of `solve` says
 

@@ -3,5 +3,6 @@
 pub mod Regression
 pub mod Falling
 pub mod Triangle
+pub mod Sparse
 pub mod Workspace
 pub mod Solve

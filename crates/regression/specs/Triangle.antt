@@ -21,11 +21,16 @@ triangle D ss = tabulate D (λ j. covFrom D ss j ++ rhs ss j ∷ [])
 
 -- ---- one sample more
 
+-- Each row made anew from the extended row from the diagonal on: a cell d, beside y, becomes f x d y, x being the cell
+-- on the diagonal.
+unfoldable pub addTriangleBy : (Float → Float → Float → Float) → List (List Float) → List Float → List (List Float)
+addTriangleBy f [] ext = []
+addTriangleBy f (row ∷ rows) [] = row ∷ rows
+addTriangleBy f (row ∷ rows) (x ∷ ext) = zipped (f x) row (x ∷ ext) ∷ addTriangleBy f rows ext
+
 -- to each row the extended row from the diagonal on, times its cell there
-unfoldable pub addTriangle : List (List Float) → List Float → List (List Float)
-addTriangle [] ext = []
-addTriangle (row ∷ rows) [] = row ∷ rows
-addTriangle (row ∷ rows) (x ∷ ext) = zipped (plusScaled x) row (x ∷ ext) ∷ addTriangle rows ext
+abbrev pub addTriangle : List (List Float) → List Float → List (List Float)
+addTriangle rows ext = addTriangleBy plusScaled rows ext
 
 -- ---- full rows
 

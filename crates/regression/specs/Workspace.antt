@@ -34,9 +34,13 @@ stored D cells = fallingRows (D + 1) D (drop (systemLength D) cells)
 abbrev pub equations : ℕ → List Float → List (List Float)
 equations D cells = unfolded D (stored D cells)
 
--- the workspace with these equations in place of its own
-unfoldable pub withEquations : ℕ → (rows : List (List Float)) (cells : List Float) → List Float
-withEquations D rows cells = take (systemLength D) cells ++ flat (folded D rows)
+-- the workspace with these rows stored in place of its own
+unfoldable pub withStored : ℕ → (rows : List (List Float)) (cells : List Float) → List Float
+withStored D rows cells = take (systemLength D) cells ++ flat rows
+
+-- and with these equations
+abbrev pub withEquations : ℕ → (rows : List (List Float)) (cells : List Float) → List Float
+withEquations D rows cells = withStored D (folded D rows) cells
 
 -- ---- what a fit leaves in it
 

@@ -11,11 +11,14 @@ ghost use Rattle.matrix.specs.Lists.{zipped, tabulate};
 ghost use Rattle.status.specs.Limits.{maxOrder, maxRows};
 ghost use Rattle.regression.specs.Falling.{fallingRows, fallingStart};
 ghost use Rattle.regression.specs.Triangle.{addTriangle, mirrored, unfolded};
+ghost use Rattle.regression.specs.Sparse.{addVisited, visited};
 ghost use Rattle.regression.specs.Workspace.{
   Workspace,
   workspaceCells,
   systemLength,
+  stored,
   equations,
+  withStored,
   withEquations,
   cleared,
   fitSlices,
@@ -29,6 +32,8 @@ ghost use Rattle.regression.specs.Regression.{
   plusTarget,
   r2Of,
 };
+
+mod sparse; // a sample whose zeros are skipped
 
 // What a fit answers: the ridge that solved the normal equations with r2 and the number of training
 // rows, that there is no training row, or that no ridge solves them.
@@ -114,6 +119,33 @@ pub fn add_row(workspace: &mut [f64], d: usize, ext: &[f64])
 {
     let split = system_length(d);
     add_to_rows(&mut workspace[split..], ext);
+}
+
+// Adds a sample as `add_row` does and skips its zeros: where all its cells are finite only the pairs of columns that
+// are not zero are visited, and the target of each such column. Answers how many pairs are visited: k * (k + 1) / 2
+// for k such columns, and d * (d + 1) / 2 where a cell is not finite. To sums of samples, which began at +0.0, it does
+// what `add_row` does. `places` and `starts` are room for a number a cell of `ext`. For the models.
+pub fn add_row_sparse(
+    workspace: &mut [f64],
+    d: usize,
+    ext: &[f64],
+    places: &mut [usize],
+    starts: &mut [usize],
+) -> u32
+    requires { ⌜ Workspace d (now workspace) × (length (now ext) ≡ d + 1) ⌝ }
+    requires { ⌜ (d < length (now places)) × (d < length (now starts)) ⌝ }
+    ensures { λ _. ⌜ now (workspace .exit) ≡ withStored d
+        (addVisited (stored d (now (workspace .entry))) (now (ext .entry)))
+        (now (workspace .entry)) ⌝ }
+    ensures { λ r. ⌜ r ≡ visited (now (ext .entry)) ⌝ }
+{
+    if !sparse::all_finite(ext) {
+        add_row(workspace, d, ext);
+        return sparse::pairs(d);
+    }
+    let split = system_length(d);
+    let columns = sparse::add_nonzero(&mut workspace[split..], ext, places, starts);
+    sparse::pairs(columns)
 }
 
 // The number of samples, the sum of their targets and of the targets' squares.

@@ -9,7 +9,7 @@ use denote.Ref.{now}
 use borrow.Author.Needs.{needs}
 use Rattle.regression.specs.Falling.{fallingRows}
 use Rattle.regression.specs.Workspace.{systemLength, stored}
-use Rattle.regression.proofs.Workspace.{part-is, part-length, part-back}
+use Rattle.regression.proofs.Workspace.{part-is, part-length, part-back, add-stored}
 use Rattle.regression.proofs.add_row.Statement.{statement}
 use Rattle.regression.proofs.add_row.Tie as tie
 
@@ -64,8 +64,9 @@ returns c =
     let o = c .before .before .before .before in
     let a = s o .args in
     let e = rows o (length (now (a .ext))) (s o .pre .1) in
-    part-back (a .d) (split o) (ws o) (s o .pre .0 .count) (o .system-length .ensures) _ _ (s o .pre .1)
+    part-back (a .d) (split o) (ws o) (s o .pre .0 .count) (o .system-length .ensures) _ _
     (rw e at (c .before .before .add-to-rows .ensures))
+    ∙ add-stored (a .d) (ws o) (now (a .ext)) (s o .pre .0 .count) (s o .pre .1)
 
 pub add-row-spec : {M : Type 1} → statement M
 add-row-spec =

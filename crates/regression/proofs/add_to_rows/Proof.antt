@@ -120,7 +120,7 @@ returns c =
     sym (flat-falling w (w - 1) (l .acc) (l .inv .3 ∙ s .pre))
     ∙ ap flat
     (l .inv .2
-    ∙ made-add (l .j) (fallingRows w (w - 1) (now (a .acc))) (now (a .ext))
+    ∙ made-add plusScaled (l .j) (fallingRows w (w - 1) (now (a .acc))) (now (a .ext))
     (simp length-falling (omega arith)) (simp length-falling (omega arith)))
 
 pub add-to-rows-spec : {M : Type 1} → statement M

@@ -17,11 +17,12 @@ use Rattle.feature.specs.Feature.{trains, kept}
 use Rattle.peptide.specs.Table.{Table}
 use Rattle.embedding.specs.Design.{orderOf, design}
 use Rattle.embedding.specs.declared.Model.{Model}
-use Rattle.regression.specs.Regression.{Sample, extended, normal, addRow, sumsOf, plusTarget}
-use Rattle.regression.specs.Workspace.{Workspace, equations, withEquations, holding}
+use Rattle.regression.specs.Regression.{Sample, extended, normal, sumsOf, plusTarget}
+use Rattle.regression.specs.Sparse.{addVisited}
+use Rattle.regression.specs.Workspace.{Workspace, stored, withStored, holding}
 use Rattle.regression.specs.declared.Sums.{Sums}
 use Rattle.regression.proofs.Laws.{sums-nil, sums-snoc}
-use Rattle.regression.proofs.Workspace.{length-holding, add-row-holds}
+use Rattle.regression.proofs.Workspace.{length-holding, add-visited-holds}
 use Rattle.model_fit.specs.Input.{Input, inputOf, inputAt}
 use Rattle.model_fit.specs.Samples.{sampleFrom}
 use Rattle.model_fit.specs.Shared.{Listed, Checked}
@@ -33,16 +34,18 @@ use Rattle.model_fit.proofs.training.accumulate.Tie as tie
 
 abbrev Inv-loop : tie.InvT-loop
 Inv-loop model peptide label q charge observed letters offsets masses logs
-    workspace₀ row₀ sums₀ i₀ i-end workspace row sums i =
+    workspace₀ row₀ places₀ starts₀ sums₀ i₀ i-end workspace row places starts sums i =
     let input : Input = inputOf peptide label q charge observed letters offsets masses logs in
     (i ≤ length peptide)
     × (workspace ≡ holding (orderOf model) (normal (orderOf model) (seen model input i)))
     × (sums ≡ sumsOf (seen model input i))
     × (length row ≡ maxOrder + 1)
+    × (length places ≡ maxOrder + 1)
+    × (length starts ≡ maxOrder + 1)
 
 abbrev μ-loop : tie.MeasureT-loop
 μ-loop model peptide label q charge observed letters offsets masses logs
-    workspace₀ row₀ sums₀ i₀ i-end workspace row sums i =
+    workspace₀ row₀ places₀ starts₀ sums₀ i₀ i-end workspace row places starts sums i =
     length peptide - i
 
 -- where the function begins, and what it was passed
@@ -117,7 +120,7 @@ module _ (m : tie.After-mass-at Inv-loop μ-loop) where
 
 -- the place of a looked-up peptide, as the sample that is added sees it
 abbrev looked : tie.After-add-sample-arg Inv-loop μ-loop → tie.After-mass-at Inv-loop μ-loop
-looked d = d .before .before
+looked d = d .before .before .before .before
 
 -- one training row more
 one-more : (model : Model) (i : Input) (k : ℕ) (x : Sample) (cells cells₁ : List Float) (before after : Sums)
@@ -127,7 +130,7 @@ one-more : (model : Model) (i : Input) (k : ℕ) (x : Sample) (cells cells₁ : 
     → x ≡ sampleAt model i k
     → let D = orderOf model in
     cells ≡ holding D (normal D (seen model i k))
-    → cells₁ ≡ withEquations D (addRow (equations D cells) (extended x)) cells
+    → cells₁ ≡ withStored D (addVisited (stored D cells) (extended x)) cells
     → before ≡ sumsOf (seen model i k)
     → after ≡ plusTarget before (x .y)
     → (cells₁ ≡ holding D (normal D (seen model i (k + 1)))) × (after ≡ sumsOf (seen model i (k + 1)))
@@ -136,7 +139,7 @@ one-more model i k x cells cells₁ before after checked h t ex holds e eb ea =
     let ss : List Sample = seen model i k in
     let wide : length (x .row) ≡ D = ap (λ (s : Sample). length (s .row)) ex ∙ wide-design model _ _ _ _ in
     let n : seen model i (k + 1) ≡ ss ++ x ∷ [] = rw (add-one k, ex) (seen-trains model i checked k h t) in (
-      add-row-holds D ss cells cells₁ holds x (extended x) wide refl e
+      add-visited-holds D ss cells cells₁ holds x (extended x) wide refl e
           ∙ ap (λ (t : List Sample). holding D (normal D t)) (sym n),
       ea ∙ ap (λ (v : Sums). plusTarget v (x .y)) eb ∙ sym (sums-snoc ss x) ∙ ap sumsOf (sym n),
     )
@@ -148,7 +151,7 @@ loop-holds : tie.Need-loop-holds Inv-loop μ-loop
 unfolding kept
 loop-holds c =
     let s = c .before .before .before .before .before .before .before .before .before .before in
-    (search needs, s .pre .1, c .zero .ensures ∙ sym sums-nil, refl)
+    (search needs, s .pre .1, c .zero .ensures ∙ sym sums-nil, refl, refl, refl)
 
 trains-at-requires : tie.Need-trains-at-requires Inv-loop μ-loop
 trains-at-requires c κs =
@@ -176,6 +179,8 @@ loop-again c =
       l .inv .1 ∙ ap (λ (t : List Sample). holding (orderOf model) (normal (orderOf model) t)) (sym n),
       l .inv .2 ∙ ap sumsOf (sym n),
       l .inv .3,
+      l .inv .4,
+      l .inv .5,
     )
 
 mul-widen : tie.Need-mul-widen Inv-loop μ-loop
@@ -208,15 +213,27 @@ mass-at-requires c κs = has (c .before .before .before .before .before .before 
 slice-aggregate-add-sample : tie.Need-slice-aggregate-add-sample Inv-loop μ-loop
 slice-aggregate-add-sample c = sym (turn (c .before) .before .loop .inv .3)
 
+slice-aggregate-add-sample-2 : tie.Need-slice-aggregate-add-sample-2 Inv-loop μ-loop
+slice-aggregate-add-sample-2 c = sym (turn (c .before .before) .before .loop .inv .4)
+
+slice-aggregate-add-sample-3 : tie.Need-slice-aggregate-add-sample-3 Inv-loop μ-loop
+slice-aggregate-add-sample-3 c = sym (turn (c .before .before .before) .before .loop .inv .5)
+
 add-sample-requires : tie.Need-add-sample-requires Inv-loop μ-loop
 add-sample-requires c κs =
     let m = looked c in
     let l = turn m .before .loop in
-    (short m, (omega (arith, order-max (s m .args .model), l .inv .3), still (turn m .before)))
+    let n = order-max (s m .args .model) in (
+      short m,
+      (
+        omega (arith, n, l .inv .3),
+        ((omega (arith, n, l .inv .4), omega (arith, n, l .inv .5)), still (turn m .before)),
+      ),
+    )
 
 add-requires : tie.Need-add-requires Inv-loop μ-loop
 add-requires c κs =
-    let m = looked (c .before .before .before .before) in
+    let m = looked (c .before .before .before .before .before .before) in
     let l = turn m .before .loop in
     let model = s m .args .model in
     let i = passed (s m) in
@@ -225,26 +242,29 @@ add-requires c κs =
 
 add-i-2 : tie.Need-add-i-2 Inv-loop μ-loop
 add-i-2 c =
-    let m = looked (c .before .before .before .before .before) in
+    let m = looked (c .before .before .before .before .before .before .before) in
     omega (arith, inside (turn m), s m .pre .0 .rows-max)
 
 loop-less-2 : tie.Need-loop-less-2 Inv-loop μ-loop
-loop-less-2 c = omega (arith, inside (turn (looked (c .before .before .before .before .before))))
+loop-less-2 c = omega (arith, inside (turn (looked (c .before .before .before .before .before .before .before))))
 
 loop-again-2 : tie.Need-loop-again-2 Inv-loop μ-loop
 loop-again-2 c =
-    let added = c .before .before .before .before in
+    let added = c .before .before .before .before .before .before in
     let m = looked (added .before) in
     let l = turn m .before .loop in
     let model = s m .args .model in
     let i : Input = passed (s m) in
+    let kept = added .add-sample .kept .1 .1 .1 .1 .1 .1 in
     let step =
     one-more model i (k m) _ (l .workspace) _ (l .sums) (c .add .result) (s m .pre .0) (inside (turn m))
     (trained m) (sample-is m) (l .inv .1) (added .add-sample .ensures) (l .inv .2) (c .add .ensures) in (
       omega (arith, inside (turn m)),
       step .0,
       step .1,
-      added .add-sample .kept .1 .1 .1 .1 .1 .1 .0 ∙ l .inv .3,
+      kept .0 ∙ l .inv .3,
+      kept .1 .0 ∙ l .inv .4,
+      kept .1 .1 .0 ∙ l .inv .5,
     )
 
 same-length : tie.Need-same-length Inv-loop μ-loop
@@ -288,6 +308,8 @@ accumulate-spec =
     log-at-requires
     mass-at-requires
     slice-aggregate-add-sample
+    slice-aggregate-add-sample-2
+    slice-aggregate-add-sample-3
     add-sample-requires
     add-requires
     add-i-2

@@ -15,7 +15,7 @@ module _ (o : tie.After-order) where
   put = o .before .before .before
 
   abbrev s : tie.Start
-  s = put .before .before .before .before .before
+  s = put .before .before .before .before .before .before .before
 
   abbrev d : ℕ
   d = o .order .result
@@ -35,16 +35,18 @@ order-requires c κs = search needs
 add-w : tie.Need-add-w
 add-w c = search needs
 
-slice-reshare-prefix-add-row : tie.Need-slice-reshare-prefix-add-row
-slice-reshare-prefix-add-row c = row-fits (c .before)
+slice-reshare-prefix-add-row-sparse : tie.Need-slice-reshare-prefix-add-row-sparse
+slice-reshare-prefix-add-row-sparse c = row-fits (c .before)
 
-slice-aggregate-add-row : tie.Need-slice-aggregate-add-row
-slice-aggregate-add-row c = simp length-take (omega (arith, row-fits (c .before .before)))
+slice-aggregate-add-row-sparse : tie.Need-slice-aggregate-add-row-sparse
+slice-aggregate-add-row-sparse c = simp length-take (omega (arith, row-fits (c .before .before)))
 
-add-row-requires : tie.Need-add-row-requires
-add-row-requires c κs =
-    let o = c .before .before in
-    (rw (o .order .ensures) (s o .pre .1 .1), length-take-le (d o + 1) (row o) (row-fits o))
+add-row-sparse-requires : tie.Need-add-row-sparse-requires
+add-row-sparse-requires c κs =
+    let o = c .before .before .before .before in (
+      (rw (o .order .ensures) (s o .pre .1 .1 .1), length-take-le (d o + 1) (row o) (row-fits o)),
+      rw (o .order .ensures) (s o .pre .1 .1 .0),
+    )
 
 same-length : tie.Need-same-length
 same-length c = search needs
@@ -52,10 +54,17 @@ same-length c = search needs
 same-length-2 : tie.Need-same-length-2
 same-length-2 c = search needs
 
+same-length-3 : tie.Need-same-length-3
+same-length-3 c = search needs
+
+same-length-4 : tie.Need-same-length-4
+same-length-4 c = search needs
+
 returns : tie.Need-returns
 returns c =
-    let o = c .before .before .before .before .before in
-    rw (← put o .put-sample .ensures) (rw (o .order .ensures) at (c .before .before .add-row .ensures))
+    let added = c .before .before .before .before .before .before in
+    let o = added .before .before .before .before .before in
+    rw (← put o .put-sample .ensures) (rw (o .order .ensures) at (added .add-row-sparse .ensures .0))
 
 pub add-sample-spec : {M : Type 1} → statement M
 add-sample-spec =
@@ -64,9 +73,11 @@ add-sample-spec =
     put-sample-requires
     order-requires
     add-w
-    slice-reshare-prefix-add-row
-    slice-aggregate-add-row
-    add-row-requires
+    slice-reshare-prefix-add-row-sparse
+    slice-aggregate-add-row-sparse
+    add-row-sparse-requires
     same-length
     same-length-2
+    same-length-3
+    same-length-4
     returns)
