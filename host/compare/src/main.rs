@@ -6,8 +6,9 @@
 //!     cargo run --release --offline -- one FAMILY SEED    one case again
 //!     cargo run --release --offline -- limits             inputs at the limits, once
 //!
-//! A case is made from a seed of its own, which a failure names. `rt staticlib zorkamai` makes the library;
-//! `$SAGE_SRC` says where sage's source is (host/oracle/README.md).
+//! A case is made from a seed of its own, which a failure names. `rt staticlib zorkamai` makes the library,
+//! `rt staticlib regression_export` its steps that add a sample; `$SAGE_SRC` says where sage's source is
+//! (host/oracle/README.md).
 
 mod adapters;
 mod align;
@@ -21,6 +22,7 @@ mod models;
 mod psm;
 mod runs;
 mod solve;
+mod sums;
 
 use oracle::rng::Rng;
 use std::process::ExitCode;
@@ -30,7 +32,7 @@ use std::time::{Duration, Instant};
 type Family = fn(&mut Rng) -> Result<usize, String>;
 
 /// The families, and how many cases the short run has of each.
-const FAMILIES: [(&str, Family, u64); 8] = [
+const FAMILIES: [(&str, Family, u64); 10] = [
     ("solve", solve::case, 100_000),
     ("align", align::case, 200_000),
     ("models", models::case, 3_000),
@@ -39,6 +41,8 @@ const FAMILIES: [(&str, Family, u64); 8] = [
     ("records", forms::records, 100_000),
     ("column", forms::column, 50_000),
     ("files", files::case, 400),
+    ("sums", sums::case, 100_000),
+    ("logs", sums::logs, 4_000),
 ];
 
 /// The seed of the short run, and of the long run unless one is given.

@@ -2,8 +2,8 @@
 //!
 //! `$SAGE_SRC` is the folder that holds crates/sage/src; a relative path starts at the repository's
 //! root, and the default is ../shared/docs/src beside it. A probe of ours is appended to the copies of
-//! the alignment and of both models, to read what they keep to themselves; nothing else is added and
-//! nothing is changed.
+//! the regression, the alignment and both models, to read what they keep to themselves; nothing else
+//! is added and nothing is changed.
 
 use std::path::{Path, PathBuf};
 use std::{env, fs};
@@ -14,7 +14,7 @@ const FILES: [(&str, &str); 8] = [
     ("ml/mod.rs", ""),
     ("ml/gauss.rs", ""),
     ("ml/matrix.rs", ""),
-    ("ml/regression.rs", ""),
+    ("ml/regression.rs", include_str!("probes/regression.rs")),
     ("ml/retention_alignment.rs", include_str!("probes/retention_alignment.rs")),
     ("ml/retention_model.rs", include_str!("probes/retention_model.rs")),
     ("ml/mobility_model.rs", include_str!("probes/mobility_model.rs")),

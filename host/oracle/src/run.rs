@@ -1,14 +1,20 @@
 //! Whole runs: the alignment, both fits on it, and each fitted model's predictions and errors.
 
 use crate::alignment::{align, read_rows, write_aligned, write_rows, Aligned, Columns, Row};
+use crate::leaf::any_model;
 use crate::narrow::written_exact;
 use crate::solve::ridges;
 use crate::text::{bits64, Output, Tokens};
 use sage::database::IndexedDatabase;
 use sage::ml::mobility_model::{self, MobilityModel};
+use sage::ml::regression::LinearRegression;
 use sage::ml::retention_model::{self, RetentionModel};
 use sage::peptide::Peptide;
 use sage::scoring::Feature;
+
+/// The columns of the retention model, and the column of the log.
+const RETENTION_COLUMNS: usize = 69;
+const LOG_COLUMN: usize = RETENTION_COLUMNS - 2;
 
 /// A run's input: the file count, the peptide table and the rows.
 #[derive(Clone)]
@@ -94,6 +100,21 @@ fn fit_retention(db: &IndexedDatabase, features: &[Feature]) -> (Fit, Option<Ret
     let model = RetentionModel::fit(db, features);
     let told = model.as_ref().map(|m| (m.r2, m.probe_beta().to_vec()));
     (Fit::of(told, training_rows(features)), model)
+}
+
+/// The retention model's fit where a peptide's log is any number: sage's regression over sage's design rows, with the
+/// log in its column.
+pub fn fit_with_logs(peptides: &[Peptide], logs: &[f64], features: &[Feature]) -> Fit {
+    let model = any_model();
+    let embed = |f: &Feature| {
+        let mut row = model.probe_embed(&peptides[f.peptide_idx.0 as usize]);
+        row[LOG_COLUMN] = logs[f.peptide_idx.0 as usize];
+        <[f64; RETENTION_COLUMNS]>::try_from(row).expect("a design row")
+    };
+    sage::take_failed_ridges();
+    let trains = |f: &Feature| f.label == 1 && f.spectrum_q <= 0.01;
+    let fit = LinearRegression::fit(features, trains, embed, |f| f.aligned_rt as f64);
+    Fit::of(fit.map(|fit| (fit.r2, fit.beta)), training_rows(features))
 }
 
 fn fit_mobility(db: &IndexedDatabase, features: &[Feature]) -> (Fit, Option<MobilityModel>) {

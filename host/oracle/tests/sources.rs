@@ -12,9 +12,9 @@ fn every_file_is_unchanged() {
 }
 
 #[test]
-fn only_the_alignment_and_the_models_have_a_probe() {
+fn only_four_files_have_a_probe() {
     let probed = sage::COMPILED.iter().filter(|(_, _, probe)| !probe.is_empty());
     let names: Vec<&str> = probed.map(|(name, _, _)| *name).collect();
-    let private = ["retention_alignment", "retention_model", "mobility_model"];
+    let private = ["regression", "retention_alignment", "retention_model", "mobility_model"];
     assert_eq!(names, private.map(|name| format!("ml/{name}.rs")));
 }
