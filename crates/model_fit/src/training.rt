@@ -9,7 +9,7 @@ ghost use Rattle.feature.specs.Feature.{trains};
 ghost use Rattle.status.specs.Limits.{maxLetters};
 ghost use Rattle.embedding.specs.Design.{orderOf, design};
 ghost use Rattle.regression.specs.Regression.{extended, normal, sse};
-ghost use Rattle.regression.specs.Sparse.{addVisited};
+ghost use Rattle.regression.specs.Sparse.{RowStarts, addVisited};
 ghost use Rattle.regression.specs.Workspace.{Workspace, stored, withStored, holding, fitSlices};
 ghost use Rattle.model_fit.specs.Input.{inputAt, modelInput};
 ghost use Rattle.model_fit.specs.Samples.{sampleFrom, trainingSamples, fitOfInput};
@@ -59,7 +59,8 @@ fn put_sample(
 }
 
 // Adds a sample to the normal equations in `workspace`: the design row of a peptide's letters, log and mass and of a
-// charge, and its target. `row` is room for it, `places` and `starts` for the places of its cells that are not zero.
+// charge, and its target. `row` is room for it, `places` for the places of its cells that are not zero, and `starts` are
+// the starts of the stored rows.
 fn add_sample(
     model: Model,
     letters: &[u8],
@@ -69,12 +70,12 @@ fn add_sample(
     y: f64,
     row: &mut [f64],
     places: &mut [usize],
-    starts: &mut [usize],
+    starts: &[usize],
     workspace: &mut [f64],
 )
     requires { ⌜ length (now letters) ≤ maxLetters ⌝ }
     requires { ⌜ orderOf model < length (now row) ⌝ }
-    requires { ⌜ (orderOf model < length (now places)) × (orderOf model < length (now starts)) ⌝ }
+    requires { ⌜ (orderOf model < length (now places)) × RowStarts (orderOf model) (now starts) ⌝ }
     requires { ⌜ Workspace (orderOf model) (now workspace) ⌝ }
     ensures { λ _. ⌜ (let sample = sampleFrom (design model (now (letters .entry)) log mass charge) y in
         now (workspace .exit) ≡ withStored (orderOf model)
@@ -110,7 +111,8 @@ fn accumulate(
 {
     let mut row = [0.0f64; status::MAX_ORDER + 1];
     let mut places = [0usize; status::MAX_ORDER + 1];
-    let mut starts = [0usize; status::MAX_ORDER + 1];
+    let mut starts = [0usize; status::MAX_ORDER];
+    regression::put_starts(&mut starts, embedding::order(model));
     let mut sums = Sums::zero();
     for i in 0..peptide.len() {
         if !trains_at(label, q, i) {
@@ -132,7 +134,7 @@ fn accumulate(
             y,
             &mut row,
             &mut places,
-            &mut starts,
+            &starts,
             workspace,
         );
         sums = sums.add(y);

@@ -3,6 +3,8 @@ pub mod Laws
 pub mod Falling
 pub mod Triangle
 pub mod Visited
+pub mod Places
+pub mod Pair
 pub mod Walk
 pub mod Unfolding
 pub mod Workspace

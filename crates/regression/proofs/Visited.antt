@@ -10,7 +10,7 @@ use native.Mathlib.Decide.{decLe}
 use native.Mathlib.Omega.{arith}
 use lib.Dec.{T}
 use lib.ListN.{length, getD, take, drop, length-append, length-drop, List·getD-eq-default}
-use lib.Seq.{take-at, drop-drop, getD-drop}
+use lib.Seq.{take-at, drop-cons, drop-drop, getD-drop}
 use lib.Ieee.{Float, nan, binary64, mul, add, fits}
 use lib.Ieee.Fits.{mul-fits}
 use Rattle.float.specs.Number.{zero64, sumFrom}
@@ -57,6 +57,12 @@ nonzeros-few j (x ∷ xs) = by (isZero x) (nonzeros-few (suc j) xs)
         → length (cond b (nonzeros (suc j) xs) (j ∷ nonzeros (suc j) xs)) ≤ suc (length xs)
     by true h = omega arith
     by false h = omega arith
+
+-- from a nonzero cell on they begin with its own
+pub nonzeros-here : (k l : ℕ) (xs : List Float) → l < length xs → isZero (getD xs l nan) ≡ false
+    → nonzeros k (drop l xs) ≡ k ∷ nonzeros (suc k) (drop (suc l) xs)
+unfolding nonzeros
+nonzeros-here k l xs h z = rw (drop-cons xs l nan h, z)
 
 -- The next of the places that are left from cell c on: zeros lie before it, and the places after it are those from the
 -- next cell on.

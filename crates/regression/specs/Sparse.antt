@@ -1,13 +1,16 @@
 -- A sample added with its zeros skipped: which of its cells are not zero, what is added of it, and how many pairs of
 -- columns are visited. An extended row is a design row and then the target. Definitions only.
+use mathlib.Core.Path.{_≡_}
 use mathlib.Core.Bool.{Bool, _||_, cond}
-use mathlib.Core.List.{List, [], _∷_}
-use Prim.Native.Nat.{ℕ, suc, _+_, _-_, _*_, _/_}
-use lib.ListN.{length, take}
+use mathlib.Core.List.{List, [], _∷_, _++_}
+use Prim.Native.Nat.{ℕ, suc, _+_, _-_, _*_, _/_, _≤_, _<_}
+use lib.ListN.{length, getD, take, drop}
 use lib.Ieee.{Float}
 use Rattle.float.specs.Value.{isFinite, isZero}
 use Rattle.status.specs.Checks.{every}
+use Rattle.matrix.specs.Lists.{zipped}
 use Rattle.regression.specs.Regression.{plusScaled}
+use Rattle.regression.specs.Falling.{fallingStart}
 use Rattle.regression.specs.Triangle.{addTriangleBy, addTriangle}
 
 -- no cell is a NaN or an infinity
@@ -19,11 +22,32 @@ unfoldable pub nonzeros : ℕ → List Float → List ℕ
 nonzeros j [] = []
 nonzeros j (x ∷ xs) = cond (isZero x) (nonzeros (suc j) xs) (j ∷ nonzeros (suc j) xs)
 
+-- where each of the D stored rows starts
+pub record RowStarts (D : ℕ) (starts : List ℕ) : Type 0 where
+  pub enough : D ≤ length starts
+  pub at : (j : ℕ) → j < D → getD starts j 0 ≡ fallingStart (D + 1) j
+
+-- the places of the cells of a list that are not zero, its first cell being at place j and i the next place
+pub record NextPlace (j i : ℕ) (xs : List Float) (places : List ℕ) : Type 0 where
+  pub are : places ≡ nonzeros j xs
+  pub first : getD places 0 0 ≡ j
+  pub next : getD places 1 0 ≡ i
+  pub two : 2 ≤ length places
+
 -- ---- what is added
 
 -- d plus c times s where neither c nor s is zero, and else d
 abbrev pub plusNonzero : Float → Float → Float → Float
 plusNonzero c d s = cond (isZero c || isZero s) d (plusScaled c d s)
+
+-- two rows that lie in one list, the first from its first cell on and the second from `gap` on: c times xs added to the
+-- one and d times ys to the other
+abbrev pub twoAdded : (c : Float) (xs : List Float) (d : Float) (ys : List Float) (gap : ℕ) → List Float → List Float
+twoAdded c xs d ys gap cells =
+    let n : ℕ = length xs in
+    zipped (plusNonzero c) (take n cells) xs
+    ++ (take (gap - n) (drop n cells)
+    ++ zipped (plusNonzero d) (drop gap cells) ys)
 
 -- To the stored rows: of an extended row whose cells are all finite the products of two cells that are not zero, and of
 -- another all products.

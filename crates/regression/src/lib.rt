@@ -11,7 +11,7 @@ ghost use Rattle.matrix.specs.Lists.{zipped, tabulate};
 ghost use Rattle.status.specs.Limits.{maxOrder, maxRows};
 ghost use Rattle.regression.specs.Falling.{fallingRows, fallingStart};
 ghost use Rattle.regression.specs.Triangle.{addTriangle, mirrored, unfolded};
-ghost use Rattle.regression.specs.Sparse.{addVisited, visited};
+ghost use Rattle.regression.specs.Sparse.{RowStarts, addVisited, visited};
 ghost use Rattle.regression.specs.Workspace.{
   Workspace,
   workspaceCells,
@@ -121,19 +121,33 @@ pub fn add_row(workspace: &mut [f64], d: usize, ext: &[f64])
     add_to_rows(&mut workspace[split..], ext);
 }
 
+// Fills `starts` with the starts of the d stored rows, which `add_row_sparse` reads. For the models.
+pub fn put_starts(starts: &mut [usize], d: usize)
+    requires { ⌜ (d ≤ maxOrder) × (d ≤ length (now starts)) ⌝ }
+    ensures { λ _. ⌜ RowStarts d (now (starts .exit)) ⌝ }
+{
+    let mut start = 0usize;
+    let mut j = 0usize;
+    while j < d {
+        starts[j] = start;
+        start = start + (d + 1 - j);
+        j += 1;
+    }
+}
+
 // Adds a sample as `add_row` does and skips its zeros: where all its cells are finite only the pairs of columns that
-// are not zero are visited, and the target of each such column. Answers how many pairs are visited: k * (k + 1) / 2
-// for k such columns, and d * (d + 1) / 2 where a cell is not finite. To sums of samples, which began at +0.0, it does
-// what `add_row` does. `places` and `starts` are room for a number a cell of `ext`. For the models.
+// are not zero are visited, and each such column's pair with a target that is not zero. Answers how many pairs of columns
+// are visited: k * (k + 1) / 2 for k such columns, and d * (d + 1) / 2 where a cell is not finite. To sums of samples,
+// which began at +0.0, it does what `add_row` does. `places` is room for a number a cell of `ext`. For the models.
 pub fn add_row_sparse(
     workspace: &mut [f64],
     d: usize,
     ext: &[f64],
     places: &mut [usize],
-    starts: &mut [usize],
+    starts: &[usize],
 ) -> u32
     requires { ⌜ Workspace d (now workspace) × (length (now ext) ≡ d + 1) ⌝ }
-    requires { ⌜ (d < length (now places)) × (d < length (now starts)) ⌝ }
+    requires { ⌜ (d < length (now places)) × RowStarts d (now starts) ⌝ }
     ensures { λ _. ⌜ now (workspace .exit) ≡ withStored d
         (addVisited (stored d (now (workspace .entry))) (now (ext .entry)))
         (now (workspace .entry)) ⌝ }

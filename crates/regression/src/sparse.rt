@@ -2,9 +2,9 @@
 // equations that are such places are visited at the places from there on.
 ghost use mathlib.Core.Path.{_≡_};
 ghost use mathlib.Core.Bool.{false, cond};
-ghost use mathlib.Core.List.{map};
 ghost use Prim.Native.Nat.{_+_, _-_, _≤_, _<_};
-ghost use lib.ListN.{length, take};
+ghost use lib.ListN.{length, take, drop, getD};
+ghost use lib.Ieee.{nan};
 ghost use Rattle.float.specs.Value.{isZero};
 ghost use Rattle.matrix.specs.Rows.{flat};
 ghost use Rattle.matrix.specs.Lists.{zipped};
@@ -15,6 +15,9 @@ ghost use Rattle.regression.specs.Sparse.{
   allFinite,
   nonzeros,
   plusNonzero,
+  twoAdded,
+  NextPlace,
+  RowStarts,
   pairs,
   nonzeroColumns,
 };
@@ -43,27 +46,19 @@ pub(crate) fn pairs(n: usize) -> u32
     k * (k + 1) / 2
 }
 
-// Gathers the places of the cells of `ext` that are not zero, and beside each place the start of the stored row of that
-// number. Answers how many they are.
-fn gather(ext: &[f64], places: &mut [usize], starts: &mut [usize]) -> usize
-    requires { ⌜ length (now ext) ≤ maxOrder + 1 ⌝ }
-    requires { ⌜ (length (now ext) ≤ length (now places)) × (length (now ext) ≤ length (now starts)) ⌝ }
+// Gathers the places of the cells of `ext` that are not zero, and answers how many they are.
+fn gather(ext: &[f64], places: &mut [usize]) -> usize
+    requires { ⌜ length (now ext) ≤ length (now places) ⌝ }
     ensures { λ r. ⌜ r ≡ length (nonzeros 0 (now (ext .entry))) ⌝ }
     ensures { λ r. ⌜ take r (now (places .exit)) ≡ nonzeros 0 (now (ext .entry)) ⌝ }
-    ensures { λ r. ⌜ take r (now (starts .exit))
-        ≡ map (fallingStart (length (now (ext .entry)))) (nonzeros 0 (now (ext .entry))) ⌝ }
 {
-    let w = ext.len();
     let mut n = 0usize;
-    let mut start = 0usize;
     let mut j = 0usize;
-    while j < w {
+    while j < ext.len() {
         places[n] = j;
-        starts[n] = start;
         if ext[j] != 0.0 {
             n += 1;
         }
-        start = start + (w - j);
         j += 1;
     }
     n
@@ -96,32 +91,90 @@ fn add_places(row: &mut [f64], rest: &[f64], factor: f64, places: &[usize], j: u
     }
 }
 
+// Does what `add_places` does to two rows at once: the one begins with the first cell of `part` and gains `x` times
+// `rest`, the other begins at `gap` and gains `y` times `rest`. Neither `x` nor `y` is zero.
+fn add_both(part: &mut [f64], rest: &[f64], x: f64, y: f64, places: &[usize], j: usize, gap: usize)
+    requires { ⌜ (length (now rest) ≤ gap) × (length (now part) ≡ gap + length (now rest)) ⌝ }
+    requires { ⌜ (isZero x ≡ false) × (isZero y ≡ false) ⌝ }
+    requires { ⌜ now places ≡ nonzeros j (now rest) ⌝ }
+    ensures { λ _. ⌜ now (part .exit)
+        ≡ twoAdded x (now (rest .entry)) y (now (rest .entry)) gap (now (part .entry)) ⌝ }
+{
+    let mut p = 0usize;
+    while p < places.len() {
+        let c = places[p] - j;
+        let v = rest[c];
+        part[c] = part[c] + x * v;
+        part[gap + c] = part[gap + c] + y * v;
+        p += 1;
+    }
+}
+
+// Adds a sample to two stored rows: that of place j, which begins with the first cell of `part`, and that of the next
+// place i, which begins at `gap`. `rest` is the sample from cell j on, and `places` are those of its cells that are not
+// zero.
+fn add_two_rows(part: &mut [f64], rest: &[f64], places: &[usize], j: usize, i: usize, gap: usize)
+    requires { ⌜ (length (now rest) ≤ gap) × (length (now part) ≡ gap + (length (now rest) - (i - j))) ⌝ }
+    requires { ⌜ NextPlace j i (now rest) (now places) ⌝ }
+    ensures { λ _. ⌜ (let xs = now (rest .entry) in let lead = i - j in
+        now (part .exit)
+        ≡ twoAdded (getD xs 0 nan) xs (getD xs lead nan) (drop lead xs) gap (now (part .entry))) ⌝ }
+{
+    let lead = i - j;
+    let x = rest[0];
+    part[0] = part[0] + x * x;
+    add_both(
+        &mut part[lead..],
+        &rest[lead..],
+        x,
+        rest[lead],
+        &places[1..],
+        i,
+        gap - lead,
+    );
+}
+
 // Adds to the rows of `acc`, which are as `add_to_rows` has them, the products of two cells of `ext` that are not zero.
-// Answers how many columns are not zero. `places` and `starts` are room.
+// Answers how many columns are not zero. `places` is room, and `starts` says where each row starts.
 pub(crate) fn add_nonzero(
     acc: &mut [f64],
     ext: &[f64],
     places: &mut [usize],
-    starts: &mut [usize],
+    starts: &[usize],
 ) -> usize
-    requires { ⌜ (0 < length (now ext)) × (length (now ext) ≤ maxOrder + 1) ⌝ }
+    requires { ⌜ (0 < length (now ext)) × (length (now ext) ≤ length (now places)) ⌝ }
     requires { ⌜ length (now acc) ≡ fallingStart (length (now ext)) (length (now ext) - 1) ⌝ }
-    requires { ⌜ (length (now ext) ≤ length (now places)) × (length (now ext) ≤ length (now starts)) ⌝ }
+    requires { ⌜ RowStarts (length (now ext) - 1) (now starts) ⌝ }
     ensures { λ _. ⌜ (let w = length (now (ext .entry)) in
         let rows = fallingRows w (w - 1) (now (acc .entry)) in
         now (acc .exit) ≡ flat (addTriangleBy plusNonzero rows (now (ext .entry)))) ⌝ }
     ensures { λ r. ⌜ r ≡ length (nonzeroColumns (now (ext .entry))) ⌝ }
 {
     let w = ext.len();
-    let n = gather(ext, places, starts);
+    let n = gather(ext, places);
     let k = columns(n, ext[w - 1]);
     let mut m = 0usize;
-    while m < k {
+    while m + 1 < k {
         let j = places[m];
-        let start = starts[m];
+        let i = places[m + 1];
+        let start = starts[j];
+        let below = starts[i];
+        let end = below + (w - i);
+        add_two_rows(
+            &mut acc[start..end],
+            &ext[j..],
+            &places[m..n],
+            j,
+            i,
+            below - start,
+        );
+        m += 2;
+    }
+    if m < k {
+        let j = places[m];
+        let start = starts[j];
         let end = start + (w - j);
         add_places(&mut acc[start..end], &ext[j..], ext[j], &places[m..n], j);
-        m += 1;
     }
     k
 }

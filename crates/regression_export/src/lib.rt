@@ -1,9 +1,11 @@
-// The two steps that add a sample to the stored normal equations, under C names, for tests of the compiled code.
+// The two steps that add a sample to the stored normal equations, and the starts that one of them reads, under C names,
+// for tests of the compiled code.
 ghost use mathlib.Core.Path.{_≡_};
-ghost use Prim.Native.Nat.{_+_, _<_};
+ghost use Prim.Native.Nat.{_+_, _≤_, _<_};
 ghost use lib.ListN.{length};
+ghost use Rattle.status.specs.Limits.{maxOrder};
 ghost use Rattle.regression.specs.Regression.{addRow};
-ghost use Rattle.regression.specs.Sparse.{addVisited, visited};
+ghost use Rattle.regression.specs.Sparse.{RowStarts, addVisited, visited};
 ghost use Rattle.regression.specs.Workspace.{
   Workspace,
   stored,
@@ -23,15 +25,23 @@ pub extern "C" fn zk_add_row(workspace: &mut [f64], d: usize, ext: &[f64])
 }
 
 #[no_mangle]
+pub extern "C" fn zk_put_starts(starts: &mut [usize], d: usize)
+    requires { ⌜ (d ≤ maxOrder) × (d ≤ length (now starts)) ⌝ }
+    ensures { λ _. ⌜ RowStarts d (now (starts .exit)) ⌝ }
+{
+    regression::put_starts(starts, d);
+}
+
+#[no_mangle]
 pub extern "C" fn zk_add_row_sparse(
     workspace: &mut [f64],
     d: usize,
     ext: &[f64],
     places: &mut [usize],
-    starts: &mut [usize],
+    starts: &[usize],
 ) -> u32
     requires { ⌜ Workspace d (now workspace) × (length (now ext) ≡ d + 1) ⌝ }
-    requires { ⌜ (d < length (now places)) × (d < length (now starts)) ⌝ }
+    requires { ⌜ (d < length (now places)) × RowStarts d (now starts) ⌝ }
     ensures { λ _. ⌜ now (workspace .exit) ≡ withStored d
         (addVisited (stored d (now (workspace .entry))) (now (ext .entry)))
         (now (workspace .entry)) ⌝ }

@@ -13,12 +13,13 @@ unsafe extern "C" {
         width: usize,
         places: *mut usize,
         many_places: usize,
-        starts: *mut usize,
+        starts: *const usize,
         many_starts: usize,
     ) -> u32;
+    fn zk_put_starts(starts: *mut usize, many: usize, d: usize);
 }
 
-/// A fit's work room, of an order up to 100, and the room for places.
+/// A fit's work room, of an order up to 100, the room for places, and the starts of its stored rows.
 pub struct Equations {
     d: usize,
     /// The full rows, which a step leaves, and then the stored ones.
@@ -33,7 +34,10 @@ impl Equations {
         assert!(d <= 100, "the largest order");
         let cells = std::iter::repeat_with(cells);
         let workspace = cells.take(d * d + d * (d + 1) / 2 + 2 * d).collect();
-        Equations { d, workspace, places: vec![0; d + 1], starts: vec![0; d + 1] }
+        let mut starts = vec![0; d];
+        // SAFETY: the slice is live, and has a number for each of up to 100 rows.
+        unsafe { zk_put_starts(starts.as_mut_ptr(), starts.len(), d) }
+        Equations { d, workspace, places: vec![0; d + 1], starts }
     }
 
     /// The stored cells: each row from its diagonal on, and then the right side's.
@@ -53,7 +57,7 @@ impl Equations {
     pub fn add_row_sparse(&mut self, ext: &[f64]) -> u32 {
         assert_eq!(ext.len(), self.d + 1);
         let Equations { d, workspace, places, starts } = self;
-        // SAFETY: as above, and the room has a number for each cell of the row.
+        // SAFETY: as above; the room has a number for each cell of the row, and the starts are those of the order.
         unsafe {
             zk_add_row_sparse(
                 workspace.as_mut_ptr(),
@@ -63,7 +67,7 @@ impl Equations {
                 ext.len(),
                 places.as_mut_ptr(),
                 places.len(),
-                starts.as_mut_ptr(),
+                starts.as_ptr(),
                 starts.len(),
             )
         }

@@ -94,20 +94,21 @@ part-add-nonzero-end c = search needs
 
 add-nonzero-requires : tie.Need-add-nonzero-requires
 add-nonzero-requires c κs =
-    let o = c .before .before .before in
+    let o = c .before .before in
     let w : length (ext o) ≡ d o + 1 = s o .pre .0 .1 in
     let n : d o + 1 - 1 ≡ d o = omega arith in
     let e = ap length (part o)
     ∙ part-length (d o) (split o) (ws o) (s o .pre .0 .0 .count) (o .system-length .ensures) in
-    ((omega arith, omega (arith, s o .pre .0 .0 .order)), (rw (w, n) e, (omega arith, omega arith)))
+    ((omega arith, omega arith), (rw (w, n) e, rw (w, n) (s o .pre .1 .1)))
 
 pairs-requires-2 : tie.Need-pairs-requires-2
 pairs-requires-2 c κs =
-    let o = c .before .before .before .before .before .before .before .before .before .before in
+    let n = c .before .before .before .before in
+    let o = n .before .before .before in
     let k = length-take-le (length (ext o) - 1) (ext o) (omega arith) in
     omega (
       arith,
-      c .before .before .before .before .before .before .add-nonzero .ensures .1,
+      n .add-nonzero .ensures .1,
       k,
       s o .pre .0 .0 .order,
       nonzeros-few 0 (take (length (ext o) - 1) (ext o)),
@@ -119,14 +120,11 @@ same-length-2 c = search needs
 same-length-3 : tie.Need-same-length-3
 same-length-3 c = search needs
 
-same-length-4 : tie.Need-same-length-4
-same-length-4 c = search needs
-
 returns-2 : tie.Need-returns-2
 unfolding addVisited visited
 returns-2 c =
-    let n = c .before .before .before .before .before .before .before in
-    let o = n .before .before .before .before in (
+    let n = c .before .before .before .before .before in
+    let o = n .before .before .before in (
       part-back (d o) (split o) (ws o) (s o .pre .0 .0 .count) (o .system-length .ensures) _ _
           (rw (rows o) at (n .add-nonzero .ensures .0))
           ∙ rw (finite o),
@@ -151,5 +149,4 @@ add-row-sparse-spec =
     pairs-requires-2
     same-length-2
     same-length-3
-    same-length-4
     returns-2)

@@ -1,6 +1,6 @@
 -- `model_fit::training::accumulate` meets its contract. The loop's invariant: the equations in the workspace and
 -- the sums are those of the training rows among the first i.
-use mathlib.Core.Path.{_≡_, refl, sym, ap, _∙_}
+use mathlib.Core.Path.{_≡_, refl, sym, ap, _∙_, subst}
 use mathlib.Core.Bool.{true, false}
 use mathlib.Core.List.{List, [], _∷_, _++_}
 use Prim.Native.Nat.{ℕ, _+_, _-_, _≤_, _<_}
@@ -18,7 +18,7 @@ use Rattle.peptide.specs.Table.{Table}
 use Rattle.embedding.specs.Design.{orderOf, design}
 use Rattle.embedding.specs.declared.Model.{Model}
 use Rattle.regression.specs.Regression.{Sample, extended, normal, sumsOf, plusTarget}
-use Rattle.regression.specs.Sparse.{addVisited}
+use Rattle.regression.specs.Sparse.{RowStarts, addVisited}
 use Rattle.regression.specs.Workspace.{Workspace, stored, withStored, holding}
 use Rattle.regression.specs.declared.Sums.{Sums}
 use Rattle.regression.proofs.Laws.{sums-nil, sums-snoc}
@@ -34,23 +34,24 @@ use Rattle.model_fit.proofs.training.accumulate.Tie as tie
 
 abbrev Inv-loop : tie.InvT-loop
 Inv-loop model peptide label q charge observed letters offsets masses logs
-    workspace₀ row₀ places₀ starts₀ sums₀ i₀ i-end workspace row places starts sums i =
+    workspace₀ row₀ places₀ starts sums₀ i₀ i-end workspace row places sums i =
     let input : Input = inputOf peptide label q charge observed letters offsets masses logs in
     (i ≤ length peptide)
     × (workspace ≡ holding (orderOf model) (normal (orderOf model) (seen model input i)))
     × (sums ≡ sumsOf (seen model input i))
     × (length row ≡ maxOrder + 1)
     × (length places ≡ maxOrder + 1)
-    × (length starts ≡ maxOrder + 1)
 
 abbrev μ-loop : tie.MeasureT-loop
 μ-loop model peptide label q charge observed letters offsets masses logs
-    workspace₀ row₀ places₀ starts₀ sums₀ i₀ i-end workspace row places starts sums i =
+    workspace₀ row₀ places₀ starts sums₀ i₀ i-end workspace row places sums i =
     length peptide - i
 
 -- where the function begins, and what it was passed
 abbrev start : tie.At-loop Inv-loop μ-loop → tie.Start Inv-loop μ-loop
-start at = at .before .before .before .before .before .before .before .before .before .before .before
+start at =
+    at .before .before .before .before .before .before .before .before .before .before .before .before .before .before
+    .before
 
 abbrev passed : tie.Start Inv-loop μ-loop → Input
 passed s =
@@ -66,6 +67,13 @@ still at =
       count = ap length (at .loop .inv .1)
           ∙ length-holding (orderOf model) (seen model (passed (start at)) (at .loop .i));
     }
+
+-- the starts are those of the stored rows
+filled : (at : tie.At-loop Inv-loop μ-loop)
+    → RowStarts (orderOf (start at .args .model)) (at .before .before .before .put-starts .last .0)
+filled at =
+    let o = at .before .before .before in
+    subst (λ (d : ℕ). RowStarts d (o .put-starts .last .0)) (o .before .order .ensures) (o .put-starts .ensures)
 
 -- a turn's row is one of the rows
 inside : (t : tie.In-loop Inv-loop μ-loop) → t .before .loop .i < length (now (start (t .before) .args .peptide))
@@ -144,14 +152,28 @@ one-more model i k x cells cells₁ before after checked h t ex holds e eb ea =
       ea ∙ ap (λ (v : Sums). plusTarget v (x .y)) eb ∙ sym (sums-snoc ss x) ∙ ap sumsOf (sym n),
     )
 
+slice-aggregate-put-starts : tie.Need-slice-aggregate-put-starts Inv-loop μ-loop
+slice-aggregate-put-starts c = search needs
+
+order-requires : tie.Need-order-requires Inv-loop μ-loop
+order-requires c κs = search needs
+
+put-starts-requires : tie.Need-put-starts-requires Inv-loop μ-loop
+put-starts-requires c κs =
+    let s =
+    c .before .before .before .before .before .before .before .before .before .before .before in
+    let n = order-max (s .args .model) in
+    (omega (arith, n, c .order .ensures), omega (arith, n, c .order .ensures))
+
 zero-requires : tie.Need-zero-requires Inv-loop μ-loop
 zero-requires c κs = search needs
 
 loop-holds : tie.Need-loop-holds Inv-loop μ-loop
 unfolding kept
 loop-holds c =
-    let s = c .before .before .before .before .before .before .before .before .before .before in
-    (search needs, s .pre .1, c .zero .ensures ∙ sym sums-nil, refl, refl, refl)
+    let s =
+    c .before .before .before .before .before .before .before .before .before .before .before .before .before .before in
+    (search needs, s .pre .1, c .zero .ensures ∙ sym sums-nil, refl, refl)
 
 trains-at-requires : tie.Need-trains-at-requires Inv-loop μ-loop
 trains-at-requires c κs =
@@ -180,7 +202,6 @@ loop-again c =
       l .inv .2 ∙ ap sumsOf (sym n),
       l .inv .3,
       l .inv .4,
-      l .inv .5,
     )
 
 mul-widen : tie.Need-mul-widen Inv-loop μ-loop
@@ -217,7 +238,8 @@ slice-aggregate-add-sample-2 : tie.Need-slice-aggregate-add-sample-2 Inv-loop μ
 slice-aggregate-add-sample-2 c = sym (turn (c .before .before) .before .loop .inv .4)
 
 slice-aggregate-add-sample-3 : tie.Need-slice-aggregate-add-sample-3 Inv-loop μ-loop
-slice-aggregate-add-sample-3 c = sym (turn (c .before .before .before) .before .loop .inv .5)
+slice-aggregate-add-sample-3 c =
+    sym (turn (c .before .before .before) .before .before .before .before .put-starts .kept .0)
 
 add-sample-requires : tie.Need-add-sample-requires Inv-loop μ-loop
 add-sample-requires c κs =
@@ -227,13 +249,13 @@ add-sample-requires c κs =
       short m,
       (
         omega (arith, n, l .inv .3),
-        ((omega (arith, n, l .inv .4), omega (arith, n, l .inv .5)), still (turn m .before)),
+        ((omega (arith, n, l .inv .4), filled (turn m .before)), still (turn m .before)),
       ),
     )
 
 add-requires : tie.Need-add-requires Inv-loop μ-loop
 add-requires c κs =
-    let m = looked (c .before .before .before .before .before .before) in
+    let m = looked (c .before .before .before .before .before) in
     let l = turn m .before .loop in
     let model = s m .args .model in
     let i = passed (s m) in
@@ -242,15 +264,15 @@ add-requires c κs =
 
 add-i-2 : tie.Need-add-i-2 Inv-loop μ-loop
 add-i-2 c =
-    let m = looked (c .before .before .before .before .before .before .before) in
+    let m = looked (c .before .before .before .before .before .before) in
     omega (arith, inside (turn m), s m .pre .0 .rows-max)
 
 loop-less-2 : tie.Need-loop-less-2 Inv-loop μ-loop
-loop-less-2 c = omega (arith, inside (turn (looked (c .before .before .before .before .before .before .before))))
+loop-less-2 c = omega (arith, inside (turn (looked (c .before .before .before .before .before .before))))
 
 loop-again-2 : tie.Need-loop-again-2 Inv-loop μ-loop
 loop-again-2 c =
-    let added = c .before .before .before .before .before .before in
+    let added = c .before .before .before .before .before in
     let m = looked (added .before) in
     let l = turn m .before .loop in
     let model = s m .args .model in
@@ -264,7 +286,6 @@ loop-again-2 c =
       step .1,
       kept .0 ∙ l .inv .3,
       kept .1 .0 ∙ l .inv .4,
-      kept .1 .1 .0 ∙ l .inv .5,
     )
 
 same-length : tie.Need-same-length Inv-loop μ-loop
@@ -292,6 +313,9 @@ accumulate-spec =
     (tie.spec
     Inv-loop
     μ-loop
+    slice-aggregate-put-starts
+    order-requires
+    put-starts-requires
     zero-requires
     loop-holds
     trains-at-requires

@@ -43,7 +43,7 @@ slice-aggregate-add-row-sparse c = simp length-take (omega (arith, row-fits (c .
 
 add-row-sparse-requires : tie.Need-add-row-sparse-requires
 add-row-sparse-requires c κs =
-    let o = c .before .before .before .before in (
+    let o = c .before .before .before in (
       (rw (o .order .ensures) (s o .pre .1 .1 .1), length-take-le (d o + 1) (row o) (row-fits o)),
       rw (o .order .ensures) (s o .pre .1 .1 .0),
     )
@@ -57,13 +57,10 @@ same-length-2 c = search needs
 same-length-3 : tie.Need-same-length-3
 same-length-3 c = search needs
 
-same-length-4 : tie.Need-same-length-4
-same-length-4 c = search needs
-
 returns : tie.Need-returns
 returns c =
-    let added = c .before .before .before .before .before .before in
-    let o = added .before .before .before .before .before in
+    let added = c .before .before .before .before in
+    let o = added .before .before .before .before in
     rw (← put o .put-sample .ensures) (rw (o .order .ensures) at (added .add-row-sparse .ensures .0))
 
 pub add-sample-spec : {M : Type 1} → statement M
@@ -79,5 +76,4 @@ add-sample-spec =
     same-length
     same-length-2
     same-length-3
-    same-length-4
     returns)

@@ -1,10 +1,10 @@
--- `regression::sparse::gather` meets its contract. The loop's invariant: n of the first j cells are not zero, their
--- places and the starts of the rows of these numbers are gathered, and start is row j's first cell.
+-- `regression::sparse::gather` meets its contract. The loop's invariant: n of the first j cells are not zero, and their
+-- places are gathered.
 use mathlib.Core.Path.{_≡_, refl, sym, ap, _∙_, subst}
 use mathlib.Core.Logic.{⊎-elim}
 use mathlib.Core.Bool.{true, false, cond}
-use mathlib.Core.List.{List, [], _∷_, _++_, map, map-append, append-nil}
-use Prim.Native.Nat.{ℕ, _+_, _-_, _*_, _≤_, _<_}
+use mathlib.Core.List.{List, [], _∷_, _++_, append-nil}
+use Prim.Native.Nat.{ℕ, _+_, _-_, _≤_, _<_}
 use native.Mathlib.Numerals.{add-one}
 use native.Mathlib.Omega.{arith}
 use lib.ListN.{length, getD, set, take, length-append, length-set}
@@ -14,36 +14,26 @@ use denote.Ref.{now}
 use borrow.Author.Tests.{not-true, not-false}
 use Rattle.float.specs.Value.{isZero}
 use Rattle.float.proofs.Zeros.{is-zero}
-use Rattle.regression.specs.Falling.{fallingStart}
 use Rattle.regression.specs.Sparse.{nonzeros}
-use Rattle.regression.proofs.Falling.{start-next}
 use Rattle.regression.proofs.Visited.{nonzeros-snoc}
 use borrow.Author.Needs.{needs}
 use Rattle.regression.proofs.sparse.gather.Statement.{statement}
 use Rattle.regression.proofs.sparse.gather.Tie as tie
 
 abbrev Inv-loop : tie.InvT-loop
-Inv-loop ext places₀ starts₀ w n₀ start₀ j₀ places starts n start j =
+Inv-loop ext places₀ n₀ j₀ places n j =
     (j ≤ length ext)
     × (n ≡ length (nonzeros 0 (take j ext)))
     × (take n places ≡ nonzeros 0 (take j ext))
-    × (take n starts ≡ map (fallingStart (length ext)) (nonzeros 0 (take j ext)))
-    × (start ≡ fallingStart (length ext) j)
     × (length places ≡ length places₀)
-    × (length starts ≡ length starts₀)
     × (n ≤ j)
-    × (start ≤ j * 101)
 
 abbrev μ-loop : tie.MeasureT-loop
-μ-loop ext places₀ starts₀ w n₀ start₀ j₀ places starts n start j = length ext - j
+μ-loop ext places₀ n₀ j₀ places n j = length ext - j
 
 -- one cell more, and whether it is zero
-module _ (ext : List Float) (places₀ starts₀ places starts : List ℕ) (n start j : ℕ)
-    (inv : Inv-loop ext places₀ starts₀ 0 0 0 0 places starts n start j) (h : j < length ext)
-    (few : length ext ≤ 101) (room : length ext ≤ length places₀) (room′ : length ext ≤ length starts₀) where
-  abbrev f : ℕ → ℕ
-  f = fallingStart (length ext)
-
+module _ (ext : List Float) (places₀ places : List ℕ) (n j : ℕ) (inv : Inv-loop ext places₀ 0 0 places n j)
+    (h : j < length ext) (room : length ext ≤ length places₀) where
   abbrev found : List ℕ
   found = nonzeros 0 (take j ext)
 
@@ -54,12 +44,8 @@ module _ (ext : List Float) (places₀ starts₀ places starts : List ℕ) (n st
       ∙ ap (λ (k : ℕ). found ++ cond (isZero (getD ext j nan)) [] (k ∷ [])) {x = 0 + length (take j ext)} {y = j}
       (omega (arith, length-take-le j ext (omega arith))))
 
-  next : start + (length ext - j) ≡ f (j + 1)
-  next = rw (add-one j) (ap (λ (k : ℕ). k + (length ext - j)) (inv .4) ∙ sym (start-next (length ext) j))
-
   abbrev Then : ℕ → Type 0
-  Then k =
-      Inv-loop ext places₀ starts₀ 0 0 0 0 (set places n j) (set starts n start) k (start + (length ext - j)) (j + 1)
+  Then k = Inv-loop ext places₀ 0 0 (set places n j) k (j + 1)
 
   passed : isZero (getD ext j nan) ≡ true → Then n
   passed z =
@@ -67,11 +53,7 @@ module _ (ext : List Float) (places₀ starts₀ places starts : List ℕ) (n st
         omega arith,
         inv .1 ∙ sym (ap length same),
         take-set-le n places n j (omega arith) ∙ inv .2 ∙ sym same,
-        take-set-le n starts n start (omega arith) ∙ inv .3 ∙ sym (ap (map f) same),
-        next,
-        simp length-set (inv .5),
-        simp length-set (inv .6),
-        omega arith,
+        simp length-set (inv .3),
         omega arith,
       )
 
@@ -79,36 +61,23 @@ module _ (ext : List Float) (places₀ starts₀ places starts : List ℕ) (n st
   kept z =
       let more : nonzeros 0 (take (j + 1) ext) ≡ found ++ j ∷ [] = cells ∙ rw z in
       let a : take (n + 1) (set places n j) ≡ take n places ++ j ∷ [] =
-      rw (add-one n) (take-suc-set places n j (omega arith)) in
-      let b : take (n + 1) (set starts n start) ≡ take n starts ++ start ∷ [] =
-      rw (add-one n) (take-suc-set starts n start (omega arith)) in
-      let d : take n starts ++ start ∷ [] ≡ map f found ++ f j ∷ [] = cc (inv .3, inv .4) in (
+      rw (add-one n) (take-suc-set places n j (omega arith)) in (
         omega arith,
         rw more (simp length-append (omega arith)),
         a ∙ ap (λ (t : List ℕ). t ++ j ∷ []) (inv .2) ∙ sym more,
-        b ∙ d ∙ sym (ap (map f) more ∙ map-append f found (j ∷ [])),
-        next,
-        simp length-set (inv .5),
-        simp length-set (inv .6),
-        omega arith,
+        simp length-set (inv .3),
         omega arith,
       )
 
 loop-holds : tie.Need-loop-holds Inv-loop μ-loop
-unfolding nonzeros fallingStart
-loop-holds c = (search needs, refl, refl, refl, refl, refl, refl, search needs, search needs)
+unfolding nonzeros
+loop-holds c = (search needs, refl, refl, refl, search needs)
 
 mul-places : tie.Need-mul-places Inv-loop μ-loop
 mul-places c = search needs
 
 slice-write-places : tie.Need-slice-write-places Inv-loop μ-loop
 slice-write-places c = search needs
-
-mul-starts : tie.Need-mul-starts Inv-loop μ-loop
-mul-starts c = search needs
-
-slice-write-starts : tie.Need-slice-write-starts Inv-loop μ-loop
-slice-write-starts c = search needs
 
 mul-if1 : tie.Need-mul-if1 Inv-loop μ-loop
 mul-if1 c = search needs
@@ -118,12 +87,6 @@ shared-slice-read-if1 c = search needs
 
 add-n : tie.Need-add-n Inv-loop μ-loop
 add-n c = search needs
-
-sub-start : tie.Need-sub-start Inv-loop μ-loop
-sub-start c = search needs
-
-add-start : tie.Need-add-start Inv-loop μ-loop
-add-start c = search needs
 
 add-j : tie.Need-add-j Inv-loop μ-loop
 add-j c = search needs
@@ -140,36 +103,27 @@ loop-again c =
     let ext = now (a .ext) in
     let x : Float = getD ext (l .j) nan in
     let h : l .j < length ext = omega arith in
-    let at = Then ext (now (a .places)) (now (a .starts)) (l .places) (l .starts) (l .n) (l .start) (l .j) (l .inv) h
-    (s .pre .0) (s .pre .1 .0) (s .pre .1 .1) in
+    let at = Then ext (now (a .places)) (l .places) (l .n) (l .j) (l .inv) h (s .pre) in
     ⊎-elim
     (λ w.
     subst at (sym (w .1))
-    (kept ext (now (a .places)) (now (a .starts)) (l .places) (l .starts) (l .n) (l .start) (l .j) (l .inv) h
-    (s .pre .0) (s .pre .1 .0) (s .pre .1 .1) (sym (is-zero x) ∙ not-true _ (w .0 .taken))))
+    (kept ext (now (a .places)) (l .places) (l .n) (l .j) (l .inv) h (s .pre)
+    (sym (is-zero x) ∙ not-true _ (w .0 .taken))))
     (λ w.
     subst at (sym (w .1))
-    (passed ext (now (a .places)) (now (a .starts)) (l .places) (l .starts) (l .n) (l .start) (l .j) (l .inv) h
-    (s .pre .0) (s .pre .1 .0) (s .pre .1 .1) (sym (is-zero x) ∙ not-false _ (w .0 .left))))
+    (passed ext (now (a .places)) (l .places) (l .n) (l .j) (l .inv) h (s .pre)
+    (sym (is-zero x) ∙ not-false _ (w .0 .left))))
     (c .if1 .came)
 
 same-length : tie.Need-same-length Inv-loop μ-loop
 same-length c = search needs
 
-same-length-2 : tie.Need-same-length-2 Inv-loop μ-loop
-same-length-2 c = search needs
-
 returns : tie.Need-returns Inv-loop μ-loop
 returns c =
     let l = c .before .loop in
     let ext = now (c .before .before .args .ext) in
-    let whole : take (l .j) ext ≡ ext = take-all (l .j) ext (omega arith) in (
-      l .inv .1 ∙ ap (λ (t : List Float). length (nonzeros 0 t)) whole,
-      (
-        l .inv .2 ∙ ap (nonzeros 0) whole,
-        l .inv .3 ∙ ap (λ (t : List Float). map (fallingStart (length ext)) (nonzeros 0 t)) whole,
-      ),
-    )
+    let whole : take (l .j) ext ≡ ext = take-all (l .j) ext (omega arith) in
+    (l .inv .1 ∙ ap (λ (t : List Float). length (nonzeros 0 t)) whole, l .inv .2 ∙ ap (nonzeros 0) whole)
 
 pub gather-spec : {M : Type 1} → statement M
 gather-spec =
@@ -180,16 +134,11 @@ gather-spec =
     loop-holds
     mul-places
     slice-write-places
-    mul-starts
-    slice-write-starts
     mul-if1
     shared-slice-read-if1
     add-n
-    sub-start
-    add-start
     add-j
     loop-less
     loop-again
     same-length
-    same-length-2
     returns)
