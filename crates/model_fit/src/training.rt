@@ -59,7 +59,7 @@ fn put_sample(
 }
 
 // Adds a sample to the normal equations in `workspace`: the design row of a peptide's letters, log and mass and of a
-// charge, and its target. `row` is room for it, `places` for the places of its cells that are not zero, and `starts` are
+// charge, and its target. `row` is room for it, `places` for the places of its cells that are not zero. `starts` has
 // the starts of the stored rows.
 fn add_sample(
     model: Model,

@@ -6,7 +6,7 @@ use mathlib.Core.List.{List, [], _∷_, _++_, append-nil, append-assoc}
 use Prim.Native.Nat.{ℕ, zero, suc, _+_, _-_, _≤_, _<_}
 use native.Mathlib.Nat.{le-of-suc-le-suc, not-suc-le-zero}
 use native.Mathlib.Omega.{arith}
-use lib.ListN.{length, getD, set, take, drop, length-drop, take-append-drop, drop-of-length-le, length-set}
+use lib.ListN.{length, getD, set, take, drop, length-drop, take-append-drop, drop-of-length-le}
 use lib.Seq.{drop-cons, drop-drop, getD-take, length-take-le, take-all, take-take, drop-set-lt, take-set-lt}
 use lib.Ieee.{Float, nan}
 use Rattle.float.specs.Value.{isZero}
@@ -17,7 +17,7 @@ use Rattle.elimination.proofs.Made.{made, made-suc, made-skip, made-zipped}
 use Rattle.regression.specs.Regression.{plusScaled}
 use Rattle.regression.specs.Sparse.{nonzeros, NextPlace, plusNonzero, twoAdded}
 use Rattle.regression.proofs.Visited.{Next, nonzeros-here}
-use Rattle.regression.proofs.Places.{Left, left-all, next-left, left-next, scaledCell}
+use Rattle.regression.proofs.Places.{Left, left-all, next-left, scaledCell}
 
 -- what is made anew later does not move the first cells
 take-made : {A : Type 0} (g : ℕ → A → A) (j n : ℕ) (xs : List A) → j ≤ n → take j (made g n xs) ≡ take j (made g j xs)
@@ -136,7 +136,7 @@ module _ (j i : ℕ) (xs : List Float) (places : List ℕ) (g : NextPlace j i xs
         ∙ drop-set-lt lead part 0 (plusScaled x (getD part 0 nan) x) lead-some
 
     pub lent-long : length (drop lead part) ≡ gap - lead + length (drop lead xs)
-    lent-long = rw (length-drop, length-drop) (omega (arith, lead-within))
+    lent-long = rw (length-drop lead part, length-drop lead xs) (omega (arith, lead-within))
 
     pub lent-low : length (drop lead xs) ≤ gap - lead
     lent-low = rw length-drop (omega (arith, lead-within))

@@ -1,6 +1,6 @@
 -- A loop over the places of the cells that are not zero: what is left of them at a turn, and a row that is made anew at
 -- each, alone or beside another in the same list.
-use mathlib.Core.Path.{_≡_, refl, sym, ap, _∙_}
+use mathlib.Core.Path.{_≡_, sym, ap, _∙_}
 use mathlib.Core.Bool.{true, false}
 use mathlib.Core.List.{List, [], _∷_, _++_, append-assoc}
 use Prim.Native.Nat.{ℕ, zero, suc, _+_, _-_, _≤_, _<_}
@@ -80,13 +80,7 @@ set-past (x ∷ xs) ys k a =
     ap (λ (i : ℕ). set (x ∷ (xs ++ ys)) i a) (suc-add (length xs) k)
     ∙ ap (λ (t : List Float). x ∷ t) (set-past xs ys k a)
 
-module _ (xs between ys : List Float) (gap k : ℕ) (h : k < length xs) (e : gap ≡ length xs + length between) where
-  set-first : (a : Float) → set (xs ++ (between ++ ys)) k a ≡ set xs k a ++ (between ++ ys)
-  set-first a = set-append-left xs (between ++ ys) k a h
-
-  get-first : getD (xs ++ (between ++ ys)) k nan ≡ getD xs k nan
-  get-first = List·getD-append xs (between ++ ys) nan k h
-
+-- cell k of the second, which begins at `gap`
 module _ (xs between ys : List Float) (gap k : ℕ) (e : gap ≡ length xs + length between) where
   at-second : gap + k ≡ length (xs ++ between) + k
   at-second = omega (arith, length-append xs between)
@@ -113,8 +107,8 @@ pub two-cells : (xs between ys : List Float) (gap k : ℕ) (f g : Float → Floa
 two-cells xs between ys gap k f g h e =
     let first : List Float = set xs k (f (getD xs k nan)) in
     let one : set (xs ++ (between ++ ys)) k (f (getD (xs ++ (between ++ ys)) k nan)) ≡ first ++ (between ++ ys) =
-    ap (λ (d : Float). set (xs ++ (between ++ ys)) k (f d)) (get-first xs between ys gap k h e)
-    ∙ set-first xs between ys gap k h e (f (getD xs k nan)) in
+    ap (λ (d : Float). set (xs ++ (between ++ ys)) k (f d)) (List·getD-append xs (between ++ ys) nan k h)
+    ∙ set-append-left xs (between ++ ys) k (f (getD xs k nan)) h in
     let e′ : gap ≡ length first + length between = e ∙ ap (λ (n : ℕ). n + length between) (sym (length-set xs k _)) in
     ap (λ (t : List Float). set t (gap + k) (g (getD t (gap + k) nan))) one
     ∙ ap (λ (d : Float). set (first ++ (between ++ ys)) (gap + k) (g d)) (get-second first between ys gap k e′)

@@ -1,15 +1,15 @@
 -- Laws of a sample whose zeros are skipped. The places that are left, one after the other, as the loops walk them; and
 -- for every order and all samples: what is added with the zeros skipped is what is added with them, since each cell is
 -- a sum that began at +0.0. How many pairs are visited.
-use mathlib.Core.Path.{_≡_, refl, sym, ap, _∙_, subst}
-use mathlib.Core.Bool.{Bool, true, false, _||_, cond, false≢true}
-use mathlib.Core.List.{List, [], _∷_, _++_, map, append-nil}
-use Prim.Native.Nat.{ℕ, zero, suc, _+_, _-_, _*_, _/_, _≤_, _<_}
+use mathlib.Core.Path.{_≡_, refl, sym, ap, _∙_}
+use mathlib.Core.Bool.{Bool, true, false, _||_, cond}
+use mathlib.Core.List.{List, [], _∷_, _++_, map}
+use Prim.Native.Nat.{ℕ, zero, suc, _+_, _-_, _/_, _≤_, _<_}
 use native.Mathlib.Nat.{le-of-suc-le-suc, not-suc-le-zero, lt-of-not-le}
 use native.Mathlib.Decide.{decLe}
 use native.Mathlib.Omega.{arith}
 use lib.Dec.{T}
-use lib.ListN.{length, getD, take, drop, length-append, length-drop, List·getD-eq-default}
+use lib.ListN.{length, getD, drop, length-append, length-drop, List·getD-eq-default}
 use lib.Seq.{take-at, drop-cons, drop-drop, getD-drop}
 use lib.Ieee.{Float, nan, binary64, mul, add, fits}
 use lib.Ieee.Fits.{mul-fits}
@@ -23,7 +23,7 @@ use Rattle.matrix.proofs.Lists.{length-tabulate, getD-tabulate}
 use Rattle.regression.specs.Regression.{Sample, extended, column, cov, rhs, plusScaled}
 use Rattle.regression.specs.Falling.{fallingStart}
 use Rattle.regression.specs.Triangle.{covFrom, triangle, addTriangleBy, addTriangle}
-use Rattle.regression.specs.Sparse.{allFinite, nonzeros, plusNonzero, addVisited, pairs, nonzeroColumns, visited}
+use Rattle.regression.specs.Sparse.{allFinite, nonzeros, plusNonzero, addVisited, pairs, visited}
 use Rattle.regression.proofs.Falling.{half-falling}
 
 -- ---- the places

@@ -16,7 +16,7 @@ use Rattle.matrix.specs.Lists.{zipped}
 use Rattle.matrix.proofs.Laws.{put, drop-take}
 use Rattle.matrix.proofs.Lists.{length-zipped}
 use Rattle.elimination.proofs.Made.{made, made-skip}
-use Rattle.elimination.proofs.Rows.{MadeIn, TurnIn, turn-in}
+use Rattle.elimination.proofs.Rows.{TurnIn, turn-in}
 use Rattle.regression.specs.Falling.{fallingRows, fallingStart}
 use Rattle.regression.specs.Triangle.{addTriangleBy}
 use Rattle.regression.specs.Sparse.{nonzeros, RowStarts, NextPlace, plusNonzero, twoAdded, nonzeroColumns}

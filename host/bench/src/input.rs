@@ -111,6 +111,30 @@ impl Work {
         assert_eq!(answer.status, 0);
     }
 
+    /// The design rows of the rows that train, as the Rust has them: how many columns are not zero, and how many
+    /// pairs of columns a fit's sums visit of them, in the mean.
+    pub fn visited(&self, model: Model) -> (f64, f64) {
+        let times = RetentionModel::fit(&self.db, &self.features).expect("it fits");
+        let mobilities = MobilityModel::fit(&self.db, &self.features).expect("it fits");
+        let design = |f: &&Feature| match model {
+            Model::Retention => times.probe_embed(&self.db[f.peptide_idx]),
+            Model::Mobility => mobilities.probe_embed(&self.db[f.peptide_idx], f.charge),
+        };
+        let trains = |f: &&Feature| f.label == 1 && f.spectrum_q <= 0.01;
+        let training: Vec<&Feature> = self.features.iter().filter(trains).collect();
+        let nonzero = |row: Vec<f64>| match row.iter().all(|x| x.is_finite()) {
+            true => row.iter().filter(|x| **x != 0.0).count(),
+            false => row.len(),
+        };
+        let (mut columns, mut pairs) = (0, 0);
+        for k in training.iter().map(design).map(nonzero) {
+            columns += k;
+            pairs += k * (k + 1) / 2;
+        }
+        let rows = training.len() as f64;
+        (columns as f64 / rows, pairs as f64 / rows)
+    }
+
     pub fn rust_predict(&mut self, model: Model) {
         let (db, features) = (&self.db, &mut self.features);
         assert!(match model {

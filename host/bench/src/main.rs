@@ -1,7 +1,7 @@
 //! Sage's Rust, read sequentially as in the oracle, against the library: one driver, the same inputs, both built
 //! for release. Each time is the best of several runs, the two sides in turn, in the processor's time of this thread.
 //!
-//!     cargo run --release --offline             all batches; the table that docs/BENCHMARKS.md holds
+//!     cargo run --release --offline             all batches; the tables that docs/BENCHMARKS.md holds
 //!     cargo run --release --offline -- small    without the batch of a million rows
 //!
 //! `rt staticlib zorkamai` makes the library; `$SAGE_SRC` says where sage's source is (host/oracle/README.md).
@@ -44,6 +44,7 @@ fn main() {
         lines.extend(batch(rows));
     }
     print_table(&lines);
+    print_visited();
 }
 
 /// The best times of `n` runs of each of two sides in turn, in seconds.
@@ -108,6 +109,17 @@ fn print_table(lines: &[Line]) {
         };
         let (rust, library, ratio) = (ms(l.rust), ms(l.library), l.library / l.rust);
         println!("| {} | {} | {rust} | {library} | {ratio:.2} | {per_row} |", l.phase, l.size);
+    }
+}
+
+/// What the sums of a fit visit of a row, on the batch of 10,000 rows.
+fn print_visited() {
+    let work = Work::new(FILES, 10_000);
+    println!("\n| Model | Columns | Not zero, a row | Pairs of columns | Visited, a row |");
+    println!("|---|---:|---:|---:|---:|");
+    for (name, model, d) in [("retention", Retention, 69), ("mobility", Mobility, 100)] {
+        let (columns, pairs) = work.visited(model);
+        println!("| {name} | {d} | {columns:.1} | {} | {pairs:.1} |", d * (d + 1) / 2);
     }
 }
 

@@ -31,8 +31,8 @@ pub fn case(r: &mut Rng) -> Result<usize, String> {
     Ok(2 * rows + 1)
 }
 
-/// A row of `d` columns and a target: mostly zeros of both signs, numbers of plain size, numbers whose products underflow
-/// or overflow, and in one row of four any floats among them.
+/// A row of `d` columns and a target: mostly zeros of both signs, numbers of plain size, numbers whose products
+/// underflow or overflow, and in one row of four any floats among them.
 fn any_row(r: &mut Rng, d: usize) -> Vec<f64> {
     let zeros = r.pick(&[0, 2, 6, 9]);
     let wild = r.one_in(4);

@@ -3,7 +3,7 @@
 use mathlib.Core.Path.{_≡_, sym, ap, _∙_}
 use mathlib.Core.Bool.{true, false}
 use mathlib.Core.List.{List}
-use Prim.Native.Nat.{ℕ, _+_, _-_, _≤_}
+use Prim.Native.Nat.{ℕ, _+_, _-_}
 use native.Mathlib.Omega.{arith}
 use lib.Ieee.{Float}
 use lib.ListN.{length, take, drop}
@@ -12,7 +12,7 @@ use denote.Ref.{now}
 use borrow.Author.Tests.{not-true, not-false}
 use Rattle.regression.specs.Falling.{fallingRows}
 use Rattle.regression.specs.Sparse.{allFinite, pairs, addVisited, visited}
-use Rattle.regression.specs.Workspace.{systemLength, stored, withStored}
+use Rattle.regression.specs.Workspace.{systemLength, stored}
 use Rattle.regression.proofs.Visited.{nonzeros-few}
 use Rattle.regression.proofs.Workspace.{part-is, part-length, part-back, add-stored}
 use borrow.Author.Needs.{needs}

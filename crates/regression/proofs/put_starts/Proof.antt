@@ -9,7 +9,6 @@ use native.Mathlib.Omega.{arith}
 use mathlib.Core.List.{List}
 use lib.ListN.{length, getD, set, length-set}
 use lib.Seq.{getD-set-same, getD-set-other}
-use denote.Ref.{now}
 use Rattle.regression.specs.Falling.{fallingStart}
 use Rattle.regression.proofs.Falling.{start-next}
 use borrow.Author.Needs.{needs}

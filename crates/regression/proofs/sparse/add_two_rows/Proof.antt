@@ -1,12 +1,12 @@
 -- `regression::sparse::add_two_rows` meets its contract: the first cell of the first row is visited, and the cells from
 -- the second row's column on are lent to `add_both` and come back.
-use mathlib.Core.Path.{_≡_, sym, ap, _∙_}
+use mathlib.Core.Path.{_≡_, _∙_}
 use mathlib.Core.List.{List}
 use Prim.Native.Nat.{ℕ, _+_, _-_, _≤_, _<_}
 use native.Mathlib.Omega.{arith}
-use lib.ListN.{length, getD, take, drop, length-set, length-drop}
+use lib.ListN.{length, take, drop, length-set, length-drop}
 use lib.Seq.{take-all}
-use lib.Ieee.{Float, nan}
+use lib.Ieee.{Float}
 use denote.Ref.{now}
 use borrow.Rule.Slice.PartMut.{same-len-mid}
 use Rattle.regression.proofs.Pair.{x-nonzero, y-nonzero, lead-some, lead-within, second-on}

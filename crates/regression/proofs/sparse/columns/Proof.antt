@@ -1,12 +1,9 @@
 -- `regression::sparse::columns` meets its contract: x == 0.0 is what a zero answers.
-use mathlib.Core.Path.{_≡_, sym, _∙_}
-use mathlib.Core.Bool.{true, false}
+use mathlib.Core.Path.{sym, _∙_}
 use Prim.Native.Nat.{_≤_}
 use native.Mathlib.Omega.{arith}
 use lib.Ieee.{ofBits}
-use Rattle.float.specs.Value.{isZero}
 use Rattle.float.proofs.Zeros.{is-zero}
-use borrow.Author.Needs.{needs}
 use Rattle.regression.proofs.sparse.columns.Statement.{statement}
 use Rattle.regression.proofs.sparse.columns.Tie as tie
 
