@@ -1,6 +1,6 @@
 //! Links `libNAME.a`, which `rt staticlib NAME` writes, where NAME is the `links` of Cargo.toml; from the folder that
 //! `$STATICLIB_DIR` names by its whole path, without it from `target/staticlib` of the repository this stands in.
-//! `host/nan_bits` has this build script too.
+//! `host/nan_bits` and `host/steps` have this build script too.
 use std::env;
 use std::path::{Path, PathBuf};
 
