@@ -42,7 +42,8 @@ plusNonzero c d s = cond (isZero c || isZero s) d (plusScaled c d s)
 
 -- two rows that lie in one list, the first from its first cell on and the second from `gap` on: c times xs added to the
 -- one and d times ys to the other
-abbrev pub twoAdded : (c : Float) (xs : List Float) (d : Float) (ys : List Float) (gap : ℕ) → List Float → List Float
+abbrev pub twoAdded : (c : Float) (xs : List Float) (d : Float) (ys : List Float) (gap : ℕ)
+    → List Float → List Float
 twoAdded c xs d ys gap cells =
     let n : ℕ = length xs in
     zipped (plusNonzero c) (take n cells) xs

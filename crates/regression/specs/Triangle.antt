@@ -23,7 +23,8 @@ triangle D ss = tabulate D (λ j. covFrom D ss j ++ rhs ss j ∷ [])
 
 -- Each row made anew from the extended row from the diagonal on: a cell d, beside y, becomes f x d y, x being the cell
 -- on the diagonal.
-unfoldable pub addTriangleBy : (Float → Float → Float → Float) → List (List Float) → List Float → List (List Float)
+unfoldable pub addTriangleBy : (Float → Float → Float → Float) → List (List Float) → List Float
+    → List (List Float)
 addTriangleBy f [] ext = []
 addTriangleBy f (row ∷ rows) [] = row ∷ rows
 addTriangleBy f (row ∷ rows) (x ∷ ext) = zipped (f x) row (x ∷ ext) ∷ addTriangleBy f rows ext

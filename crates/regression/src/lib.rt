@@ -136,9 +136,10 @@ pub fn put_starts(starts: &mut [usize], d: usize)
 }
 
 // Adds a sample as `add_row` does and skips its zeros: where all its cells are finite only the pairs of columns that
-// are not zero are visited, and each such column's pair with a target that is not zero. Answers how many pairs of columns
-// are visited: k * (k + 1) / 2 for k such columns, and d * (d + 1) / 2 where a cell is not finite. To sums of samples,
-// which began at +0.0, it does what `add_row` does. `places` is room for a number a cell of `ext`. For the models.
+// are not zero are visited, and each such column's pair with a target that is not zero. Answers how many pairs of
+// columns are visited: k * (k + 1) / 2 for k such columns, and d * (d + 1) / 2 where a cell is not finite. To sums of
+// samples, which began at +0.0, it does what `add_row` does. `places` is room for a number a cell of `ext`. For the
+// models.
 pub fn add_row_sparse(
     workspace: &mut [f64],
     d: usize,
