@@ -1,3 +1,4 @@
 pub mod Rows
 pub mod Cells
 pub mod Lists
+pub mod Nonzero
