@@ -6,5 +6,6 @@ pub mod Visited
 pub mod Places
 pub mod Pair
 pub mod Walk
+pub mod Dot
 pub mod Unfolding
 pub mod Workspace

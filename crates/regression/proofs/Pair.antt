@@ -15,9 +15,10 @@ use Rattle.matrix.proofs.Laws.{put, drop-take}
 use Rattle.matrix.proofs.Lists.{drop-zipped}
 use Rattle.elimination.proofs.Made.{made, made-suc, made-skip, made-zipped}
 use Rattle.regression.specs.Regression.{plusScaled}
-use Rattle.regression.specs.Sparse.{nonzeros, NextPlace, plusNonzero, twoAdded}
+use Rattle.matrix.specs.Nonzero.{nonzeros, nonzeroCells}
+use Rattle.regression.specs.Sparse.{NextPlace, plusNonzero, twoAdded}
 use Rattle.regression.proofs.Visited.{Next, nonzeros-here}
-use Rattle.regression.proofs.Places.{Left, left-all, next-left, scaledCell}
+use Rattle.regression.proofs.Places.{Left, left-all, next-left, values-left, value-at, scaledCell}
 
 -- what is made anew later does not move the first cells
 take-made : {A : Type 0} (g : ℕ → A → A) (j n : ℕ) (xs : List A) → j ≤ n → take j (made g n xs) ≡ take j (made g j xs)
@@ -28,7 +29,7 @@ take-made g (suc j) (suc n) [] h = refl
 take-made {A} g (suc j) (suc n) (x ∷ xs) h =
     ap (λ (t : List A). g zero x ∷ t) (take-made (λ i. g (suc i)) j n xs (le-of-suc-le-suc h))
 
-module _ (j i : ℕ) (xs : List Float) (places : List ℕ) (g : NextPlace j i xs places) where
+module _ (j i : ℕ) (xs : List Float) (places : List ℕ) (values : List Float) (g : NextPlace j i xs places values) where
   -- how far the second is from the first
   abbrev lead : ℕ
   lead = i - j
@@ -40,7 +41,7 @@ module _ (j i : ℕ) (xs : List Float) (places : List ℕ) (g : NextPlace j i xs
   y = getD xs lead nan
 
   at-first : Next j 0 xs (getD places 0 0) (drop 1 places)
-  at-first = next-left j xs places 0 0 (left-all j xs places (g .are)) (omega (arith, g .two))
+  at-first = next-left j xs places 0 0 (left-all j xs places (g .listed .places-are)) (omega (arith, g .two))
 
   no-way : getD places 0 0 - j ≡ 0
   no-way = omega (arith, g .first)
@@ -80,6 +81,23 @@ module _ (j i : ℕ) (xs : List Float) (places : List ℕ) (g : NextPlace j i xs
       ∙ ap (λ (k : ℕ). nonzeros k (drop (suc lead) xs)) {x = j + suc lead} {y = suc i}
       (omega (arith, lead-some)))
       ∙ sym (nonzeros-here i lead xs lead-within y-nonzero)
+
+  -- the values from the second on, and the first two
+  pub second-values : drop 1 values ≡ nonzeroCells (drop lead xs)
+  second-values =
+      let l : Left j xs places 1 lead =
+      second-on ∙ ap (λ (k : ℕ). nonzeros k (drop lead xs)) {x = i} {y = j + lead} (omega (arith, lead-some)) in
+      values-left j xs places values (g .listed) 1 lead l
+
+  pub x-value : getD values 0 nan ≡ x
+  x-value =
+      value-at j xs places values (g .listed) 0 0 (left-all j xs places (g .listed .places-are)) (omega (arith, g .two))
+      ∙ ap (λ (k : ℕ). getD xs k nan) no-way
+
+  pub y-value : getD values 1 nan ≡ y
+  y-value =
+      value-at j xs places values (g .listed) 1 1 left-one (omega (arith, g .two))
+      ∙ ap (λ (k : ℕ). getD xs k nan) way
 
   -- the first row's cells before the second's column
   module _ (row : List Float) (wide : length row ≡ length xs) where

@@ -1,21 +1,25 @@
 -- A loop over the places of the cells that are not zero: what is left of them at a turn, and a row that is made anew at
 -- each, alone or beside another in the same list.
-use mathlib.Core.Path.{_≡_, sym, ap, _∙_}
+use mathlib.Core.Path.{_≡_, refl, sym, ap, _∙_}
 use mathlib.Core.Bool.{true, false}
 use mathlib.Core.List.{List, [], _∷_, _++_, append-assoc}
 use Prim.Native.Nat.{ℕ, zero, suc, _+_, _-_, _≤_, _<_}
-use native.Mathlib.Nat.{zero-add, suc-add}
+use native.Mathlib.Nat.{zero-add, suc-add, lt-of-not-le}
+use native.Mathlib.Decide.{decLe}
 use native.Mathlib.Numerals.{add-one}
 use native.Mathlib.Omega.{arith}
-use lib.ListN.{length, getD, set, drop, length-append, length-set, drop-of-length-le, List·getD-append}
-use lib.Seq.{drop-cons, set-append-left, getD-append-add}
+use lib.ListN.{length, getD, set, take, drop, length-append, length-set, length-drop, take-append-drop}
+use lib.ListN.{drop-of-length-le, List·getD-append}
+use lib.Seq.{drop-cons, drop-at, set-append-left, getD-append-add, getD-drop}
 use lib.Ieee.{Float, nan}
 use Rattle.float.specs.Value.{isZero}
 use Rattle.matrix.specs.Lists.{zipped}
 use Rattle.elimination.proofs.Made.{made, made-suc, made-skip, made-zipped}
 use Rattle.regression.specs.Regression.{plusScaled}
-use Rattle.regression.specs.Sparse.{nonzeros, plusNonzero}
-use Rattle.regression.proofs.Visited.{Next, next, none-left}
+use Rattle.matrix.specs.Nonzero.{nonzeros, nonzeroCells, Listed}
+use Rattle.matrix.proofs.Nonzero.{cells-append, as-many}
+use Rattle.regression.specs.Sparse.{plusNonzero}
+use Rattle.regression.proofs.Visited.{Next, next, none-left, nonzeros-here}
 
 -- ---- the places that are left
 
@@ -36,6 +40,61 @@ module _ (j : ℕ) (rest : List Float) (places : List ℕ) where
 
     pub left-next : Left (p + 1) (suc (getD places p 0 - j))
     left-next = rw (add-one p) (next-left .rest)
+
+    -- the zeros before the next place passed over
+    left-here : Left p (getD places p 0 - j)
+    left-here =
+        let n = next-left in
+        let k : ℕ = getD places p 0 - j in
+        drop-cons places p 0 h
+        ∙ ap (λ (q : ℕ). q ∷ drop (suc p) places) {x = getD places p 0} {y = j + k} (omega (arith, n .from))
+        ∙ ap (λ (ps : List ℕ). (j + k) ∷ ps)
+        (n .rest ∙ ap (λ (i : ℕ). nonzeros i (drop (suc k) rest)) {x = j + suc k} {y = suc (j + k)} (omega arith))
+        ∙ sym (nonzeros-here (j + k) k rest (omega (arith, n .from, n .within)) (n .here))
+
+-- ---- the values that are left
+
+nil-of-none : {A : Type 0} (xs : List A) → length xs ≡ 0 → xs ≡ []
+nil-of-none [] e = refl
+nil-of-none (x ∷ xs) e = absurd (omega arith)
+
+module _ (j : ℕ) (rest : List Float) (places : List ℕ) (values : List Float) (g : Listed j rest places values) where
+  pub values-long : length values ≡ length places
+  values-long = ap length (g .values-are) ∙ sym (as-many j rest) ∙ sym (ap length (g .places-are))
+
+  -- where the places that are left are those of the cells from u on, the values are those cells'
+  pub values-left : (p u : ℕ) → Left j rest places p u → drop p values ≡ nonzeroCells (drop u rest)
+  values-left p u l =
+      let a : List Float = nonzeroCells (take u rest) in
+      let b : List Float = nonzeroCells (drop u rest) in
+      let two : values ≡ a ++ b =
+      g .values-are ∙ ap nonzeroCells (sym (take-append-drop u rest)) ∙ cells-append (take u rest) (drop u rest) in
+      let all : length values ≡ length a + length b = ap length two ∙ length-append a b in
+      let left : length places - p ≡ length b =
+      sym (length-drop p places) ∙ ap length l ∙ as-many (j + u) (drop u rest) in
+      by a b two all left (decLe (length places) p)
+    where
+      by : (a b : List Float) → values ≡ a ++ b → length values ≡ length a + length b → length places - p ≡ length b
+          → Dec (length places ≤ p) → drop p values ≡ b
+      by a b two all left (yes h) =
+          drop-of-length-le values {i = p} (omega (arith, values-long)) ∙ sym (nil-of-none b (omega arith))
+      by a b two all left (no h) =
+          let at : length a ≡ p = omega (arith, values-long, lt-of-not-le h) in
+          ap (drop p) two ∙ drop-at a b p at
+
+  pub value-at : (p u : ℕ) → Left j rest places p u → p < length places
+      → getD values p nan ≡ getD rest (getD places p 0 - j) nan
+  unfolding nonzeroCells
+  value-at p u l h =
+      let n = next-left j rest places p u l h in
+      let k : ℕ = getD places p 0 - j in
+      let here : drop p values ≡ nonzeroCells (drop k rest) = values-left p k (left-here j rest places p u l h) in
+      let first : getD (nonzeroCells (drop k rest)) 0 nan ≡ getD rest k nan =
+      rw (drop-cons rest k nan (omega (arith, n .from, n .within)), n .here) in
+      ap (λ (i : ℕ). getD values i nan) {x = p} {y = p + 0} (omega arith)
+      ∙ sym (getD-drop p values 0 nan)
+      ∙ ap (λ (t : List Float). getD t 0 nan) here
+      ∙ first
 
 -- ---- a row, made anew at each place by a factor that is not zero
 

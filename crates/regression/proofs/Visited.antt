@@ -23,7 +23,8 @@ use Rattle.matrix.proofs.Lists.{length-tabulate, getD-tabulate}
 use Rattle.regression.specs.Regression.{Sample, extended, column, cov, rhs, plusScaled}
 use Rattle.regression.specs.Falling.{fallingStart}
 use Rattle.regression.specs.Triangle.{covFrom, triangle, addTriangleBy, addTriangle}
-use Rattle.regression.specs.Sparse.{allFinite, nonzeros, plusNonzero, addVisited, pairs, visited}
+use Rattle.matrix.specs.Nonzero.{nonzeros}
+use Rattle.regression.specs.Sparse.{allFinite, plusNonzero, addVisited, pairs, visited}
 use Rattle.regression.proofs.Falling.{half-falling}
 
 -- ---- the places
@@ -47,16 +48,6 @@ nonzeros-snoc j (a ∷ xs) x =
         ≡ cond b (nonzeros (suc j) xs) (j ∷ nonzeros (suc j) xs) ++ cond (isZero x) [] ((j + suc (length xs)) ∷ [])
     first true far = far
     first false far = ap (λ (t : List ℕ). j ∷ t) far
-
-pub nonzeros-few : (j : ℕ) (xs : List Float) → length (nonzeros j xs) ≤ length xs
-unfolding nonzeros
-nonzeros-few j [] = omega arith
-nonzeros-few j (x ∷ xs) = by (isZero x) (nonzeros-few (suc j) xs)
-  where
-    by : (b : Bool) → length (nonzeros (suc j) xs) ≤ length xs
-        → length (cond b (nonzeros (suc j) xs) (j ∷ nonzeros (suc j) xs)) ≤ suc (length xs)
-    by true h = omega arith
-    by false h = omega arith
 
 -- from a nonzero cell on they begin with its own
 pub nonzeros-here : (k l : ℕ) (xs : List Float) → l < length xs → isZero (getD xs l nan) ≡ false

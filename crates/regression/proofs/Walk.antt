@@ -19,9 +19,11 @@ use Rattle.elimination.proofs.Made.{made, made-skip}
 use Rattle.elimination.proofs.Rows.{TurnIn, turn-in}
 use Rattle.regression.specs.Falling.{fallingRows, fallingStart}
 use Rattle.regression.specs.Triangle.{addTriangleBy}
-use Rattle.regression.specs.Sparse.{nonzeros, RowStarts, NextPlace, plusNonzero, twoAdded, nonzeroColumns}
+use Rattle.matrix.specs.Nonzero.{nonzeros, nonzeroCells, Listed}
+use Rattle.regression.specs.Sparse.{RowStarts, NextPlace, plusNonzero, twoAdded, nonzeroColumns}
 use Rattle.regression.proofs.Falling.{falling-layout, length-falling, flat-falling, row-ends}
 use Rattle.regression.proofs.Triangle.{made-add}
+use Rattle.regression.proofs.Places.{values-left}
 use Rattle.regression.proofs.Pair.{lead-some}
 use Rattle.regression.proofs.Visited.{nonzeros-snoc, nonzeros-below, nonzeros-here, Next, next}
 use Rattle.regression.proofs.Visited.{none-left, zero-row}
@@ -108,11 +110,12 @@ later-cells : (w j i : ℕ) → j < i → i < w → w - j - (i - j) ≡ w - i
 later-cells w j i h l = omega arith
 
 -- what was gathered: n places, k of them columns'; and where the rows start
-pub record Gathered (ext acc₀ : List Float) (places starts : List ℕ) (n k : ℕ) : Type 0 where
+pub record Gathered (ext acc₀ : List Float) (places starts : List ℕ) (values : List Float) (n k : ℕ) : Type 0 where
   pub some : 0 < length ext
   pub whole : length acc₀ ≡ fallingStart (length ext) (order ext some)
   pub count : n ≡ length (nonzeros 0 ext)
   pub found : take n places ≡ nonzeros 0 ext
+  pub cells : take n values ≡ nonzeroCells ext
   pub firsts : RowStarts (order ext some) starts
   pub columns : k ≡ n - cond (isZero (target ext some)) 0 1
 
@@ -135,7 +138,7 @@ module _ (ext acc₀ : List Float) (places : List ℕ) (n k : ℕ) where
       × (c ≤ length ext - 1)
       × (fallingRows (length ext) (length ext - 1) acc ≡ made (scaled ext) c old))
 
-  module _ (starts : List ℕ) (g : Gathered ext acc₀ places starts n k) where
+  module _ (starts : List ℕ) (values : List Float) (g : Gathered ext acc₀ places starts values n k) where
     abbrev d : ℕ
     d = length ext - 1
 
@@ -165,12 +168,15 @@ module _ (ext acc₀ : List Float) (places : List ℕ) (n k : ℕ) where
     first : (j : ℕ) → j < d → getD starts j 0 ≡ fallingStart (length ext) j
     first j h = g .firsts .at j h ∙ ap (λ (w : ℕ). fallingStart w j) (omega (arith, g .some))
 
-    -- the places from m on
-    drop-part : (m : ℕ) → m ≤ n → take (n - m) (drop m places) ≡ drop m (take n places)
-    drop-part m h =
+    -- the places and the values from m on
+    drop-part : {A : Type 0} (m : ℕ) (xs : List A) → m ≤ n → take (n - m) (drop m xs) ≡ drop m (take n xs)
+    drop-part m xs h =
         sym
-        (ap (λ (i : ℕ). drop m (take i places)) {x = n} {y = m + (n - m)} (omega arith)
-        ∙ drop-take m (n - m) places)
+        (ap (λ (i : ℕ). drop m (take i xs)) {x = n} {y = m + (n - m)} (omega arith)
+        ∙ drop-take m (n - m) xs)
+
+    all-listed : Listed 0 ext (take n places) (take n values)
+    all-listed = record { places-are = g .found; values-are = g .cells }
 
     -- rows of zero columns are as they would be made anew
     passed : (a b : ℕ) → a ≤ b → ((i : ℕ) → a ≤ i → i < b → i < d → isZero (getD ext i nan) ≡ true)
@@ -188,7 +194,7 @@ module _ (ext acc₀ : List Float) (places : List ℕ) (n k : ℕ) where
       pub wide : length (take (start + (length ext - j) - start) (drop start acc))
           ≡ length (take (length ext - j) (drop j ext))
       pub nonzero : isZero (getD ext j nan) ≡ false
-      pub left : take (n - m) (drop m places) ≡ nonzeros j (take (length ext - j) (drop j ext))
+      pub listed : Listed j (take (length ext - j) (drop j ext)) (take (n - m) (drop m places)) (take (n - m) (drop m values))
       pub next : (r : List Float) → length r ≡ length (take (start + (length ext - j) - start) (drop start acc))
           → r ≡ zipped (plusNonzero (getD ext j nan)) (take (start + (length ext - j) - start) (drop start acc))
           (take (length ext - j) (drop j ext))
@@ -226,9 +232,17 @@ module _ (ext acc₀ : List Float) (places : List ℕ) (n k : ℕ) where
           fits = t .fits;
           wide = t .part ∙ sym (ap length rest ∙ length-drop j ext);
           nonzero = z;
-          left =
-              drop-part m (omega arith) ∙ cons ∙ ap (λ (ps : List ℕ). j ∷ ps) after
-              ∙ sym (rw rest (nonzeros-here j j ext (omega arith) z));
+          listed = record {
+            places-are =
+                drop-part m places (omega arith) ∙ cons ∙ ap (λ (ps : List ℕ). j ∷ ps) after
+                ∙ sym (rw rest (nonzeros-here j j ext (omega arith) z));
+            values-are =
+                drop-part m values (omega arith)
+                ∙ values-left 0 ext (take n places) (take n values) all-listed m j
+                (cons ∙ ap (λ (ps : List ℕ). j ∷ ps) after ∙ sym (nonzeros-here j j ext (omega arith) z)
+                ∙ ap (λ (i : ℕ). nonzeros i (drop j ext)) {x = j} {y = 0 + j} (omega arith))
+                ∙ ap nonzeroCells (sym rest);
+          };
           next = λ r kept e.
               let done = t .next r kept (e ∙ rw rest) in (
                 omega arith,
@@ -248,7 +262,7 @@ module _ (ext acc₀ : List Float) (places : List ℕ) (n k : ℕ) where
       pub rising : j < i
       pub apart : start + (length ext - j) ≤ below
       pub fits : below + (length ext - i) ≤ length acc
-      pub two : NextPlace j i (take (length ext - j) (drop j ext)) (take (n - m) (drop m places))
+      pub two : NextPlace j i (take (length ext - j) (drop j ext)) (take (n - m) (drop m places)) (take (n - m) (drop m values))
       pub low : length (take (length ext - j) (drop j ext)) ≤ below - start
       pub long : length (take (below + (length ext - i) - start) (drop start acc))
           ≡ below - start + (length (take (length ext - j) (drop j ext)) - (i - j))
@@ -300,21 +314,21 @@ module _ (ext acc₀ : List Float) (places : List ℕ) (n k : ℕ) where
       other : Here acc₁ (m + 1) i below
       other = here acc₁ (m + 1) walked₁ h
 
-      pub next-place : NextPlace j i xs (take (n - m) (drop m places))
+      pub next-place : NextPlace j i xs (take (n - m) (drop m places)) (take (n - m) (drop m values))
       next-place =
           let cell : (p : ℕ) → p < n - m → getD (take (n - m) (drop m places)) p 0 ≡ getD places (m + p) 0 =
           λ p l. getD-take (n - m) (drop m places) p 0 l ∙ getD-drop m places p 0 in
           let many : length (take (n - m) (drop m places)) ≡ n - m =
-          ap length (drop-part m (omega (arith, few))) ∙ length-drop m (take n places) ∙ omega (arith, long) in
+          ap length (drop-part m places (omega (arith, few))) ∙ length-drop m (take n places) ∙ omega (arith, long) in
           record {
-            are = one .left;
+            listed = one .listed;
             first = cell 0 (omega (arith, few)) ∙ ap (λ (p : ℕ). getD places p 0) {x = m + 0} {y = m} (omega arith);
             next = cell 1 (omega (arith, few));
             two = omega (arith, many, few);
           }
 
       rising-is : j < i
-      rising-is = omega (arith, lead-some j i xs (take (n - m) (drop m places)) next-place)
+      rising-is = omega (arith, lead-some j i xs (take (n - m) (drop m places)) (take (n - m) (drop m values)) next-place)
 
       apart-is : start + (w - j) ≤ below
       apart-is =

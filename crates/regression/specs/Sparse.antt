@@ -5,10 +5,11 @@ use mathlib.Core.Bool.{Bool, _||_, cond}
 use mathlib.Core.List.{List, [], _∷_, _++_}
 use Prim.Native.Nat.{ℕ, suc, _+_, _-_, _*_, _/_, _≤_, _<_}
 use lib.ListN.{length, getD, take, drop}
-use lib.Ieee.{Float}
+use lib.Ieee.{Float, nan}
 use Rattle.float.specs.Value.{isFinite, isZero}
 use Rattle.status.specs.Checks.{every}
 use Rattle.matrix.specs.Lists.{zipped}
+use Rattle.matrix.specs.Nonzero.{nonzeros, nonzeroCells, Listed}
 use Rattle.regression.specs.Regression.{plusScaled}
 use Rattle.regression.specs.Falling.{fallingStart}
 use Rattle.regression.specs.Triangle.{addTriangleBy, addTriangle}
@@ -17,22 +18,30 @@ use Rattle.regression.specs.Triangle.{addTriangleBy, addTriangle}
 abbrev pub allFinite : List Float → Bool
 allFinite cells = every isFinite cells
 
--- the places of the cells that are not zero, the first cell being at place j
-unfoldable pub nonzeros : ℕ → List Float → List ℕ
-nonzeros j [] = []
-nonzeros j (x ∷ xs) = cond (isZero x) (nonzeros (suc j) xs) (j ∷ nonzeros (suc j) xs)
-
 -- where each of the D stored rows starts
 pub record RowStarts (D : ℕ) (starts : List ℕ) : Type 0 where
   pub enough : D ≤ length starts
   pub at : (j : ℕ) → j < D → getD starts j 0 ≡ fallingStart (D + 1) j
 
--- the places of the cells of a list that are not zero, its first cell being at place j and i the next place
-pub record NextPlace (j i : ℕ) (xs : List Float) (places : List ℕ) : Type 0 where
-  pub are : places ≡ nonzeros j xs
+-- the places and the values of the cells of a list that are not zero, its first cell being at place j and i the next
+-- place
+pub record NextPlace (j i : ℕ) (xs : List Float) (places : List ℕ) (values : List Float) : Type 0 where
+  pub listed : Listed j xs places values
   pub first : getD places 0 0 ≡ j
   pub next : getD places 1 0 ≡ i
   pub two : 2 ≤ length places
+
+-- n cells from place j on by those of them that are not zero
+pub record ListedCells (j n : ℕ) (places : List ℕ) (values : List Float) (cells : List Float) : Type 0 where
+  pub wide : length cells ≡ n
+  pub listed : Listed j cells places values
+
+-- an extended row of w cells, the last of them the target, by its cells that are not zero
+pub record ListedRow (w : ℕ) (target : Float) (places : List ℕ) (values : List Float) (ext : List Float) : Type 0 where
+  pub wide : length ext ≡ w
+  pub some : 0 < w
+  pub listed : Listed 0 ext places values
+  pub last : getD ext (w - 1) nan ≡ target
 
 -- ---- what is added
 

@@ -3,15 +3,24 @@
 // order D. The equations are D rows of D + 1 cells, [cov | b]. Since cov is symmetric to the bit, each row is stored
 // from its diagonal on, in the fit's workspace: where, and what else is in it, is this crate's own.
 ghost use mathlib.Core.Path.{_≡_};
-ghost use mathlib.Core.List.{_++_};
+ghost use mathlib.Core.Bool.{true};
+ghost use mathlib.Core.List.{List, _++_};
 ghost use Prim.Native.Nat.{_+_, _-_, _≤_, _<_};
 ghost use lib.ListN.{length, take, drop};
+ghost use lib.Ieee.{Float};
 ghost use Rattle.matrix.specs.Rows.{flat};
 ghost use Rattle.matrix.specs.Lists.{zipped, tabulate};
 ghost use Rattle.status.specs.Limits.{maxOrder, maxRows};
 ghost use Rattle.regression.specs.Falling.{fallingRows, fallingStart};
 ghost use Rattle.regression.specs.Triangle.{addTriangle, mirrored, unfolded};
-ghost use Rattle.regression.specs.Sparse.{RowStarts, addVisited, visited};
+ghost use Rattle.regression.specs.Sparse.{
+  allFinite,
+  ListedCells,
+  ListedRow,
+  RowStarts,
+  addVisited,
+  visited,
+};
 ghost use Rattle.regression.specs.Workspace.{
   Workspace,
   workspaceCells,
@@ -135,11 +144,49 @@ pub fn put_starts(starts: &mut [usize], d: usize)
     }
 }
 
-// Adds a sample as `add_row` does and skips its zeros: where all its cells are finite only the pairs of columns that
-// are not zero are visited, and each such column's pair with a target that is not zero. Answers how many pairs of
-// columns are visited: k * (k + 1) / 2 for k such columns, and d * (d + 1) / 2 where a cell is not finite. To sums of
-// samples, which began at +0.0, it does what `add_row` does. `places` is room for a number a cell of `ext`. For the
-// models.
+// Whether no cell is a NaN or an infinity.
+pub fn all_finite(cells: &[f64]) -> bool
+    ensures { λ r. ⌜ r ≡ allFinite (now (cells .entry)) ⌝ }
+{
+    sparse::all_finite(cells)
+}
+
+// Adds a sample as `add_row` does and skips its zeros: only the pairs of columns that are not zero are visited, and each
+// such column's pair with a target that is not zero. Answers how many pairs of columns are visited, k * (k + 1) / 2 for
+// k such columns. `places` and `values` list the sample's cells that are not zero, which are finite; the last of its
+// d + 1 cells is `target`. To sums of samples, which began at +0.0, it does what `add_row` does. For the models.
+pub fn add_row_listed(
+    workspace: &mut [f64],
+    d: usize,
+    target: f64,
+    places: &[usize],
+    values: &[f64],
+    starts: &[usize],
+) -> u32
+    requires { ⌜ Workspace d (now workspace) × RowStarts d (now starts) ⌝ }
+    requires { ⌜ allFinite (now values) ≡ true ⌝ }
+    requires { ⌜ ((ext : List Float) × ListedRow (d + 1) target (now places) (now values) ext) ⌝ }
+    ensures { λ _. ⌜ ((ext : List Float) → ListedRow (d + 1) target (now (places .entry)) (now (values .entry)) ext
+        → now (workspace .exit) ≡ withStored d
+        (addVisited (stored d (now (workspace .entry))) ext)
+        (now (workspace .entry))) ⌝ }
+    ensures { λ r. ⌜ ((ext : List Float) → ListedRow (d + 1) target (now (places .entry)) (now (values .entry)) ext
+        → r ≡ visited ext) ⌝ }
+{
+    let split = system_length(d);
+    let columns = sparse::add_listed(
+        &mut workspace[split..],
+        d + 1,
+        target,
+        places,
+        values,
+        starts,
+    );
+    sparse::pairs(columns)
+}
+
+// Adds a sample as `add_row` does: where all its cells are finite as `add_row_listed` does, and else by `add_row`, with
+// d * (d + 1) / 2 for an answer. `places` is room for a number a cell of `ext`. For the models.
 pub fn add_row_sparse(
     workspace: &mut [f64],
     d: usize,
@@ -158,9 +205,9 @@ pub fn add_row_sparse(
         add_row(workspace, d, ext);
         return sparse::pairs(d);
     }
-    let split = system_length(d);
-    let columns = sparse::add_nonzero(&mut workspace[split..], ext, places, starts);
-    sparse::pairs(columns)
+    let mut values = [0.0f64; status::MAX_ORDER + 1];
+    let n = sparse::gather(ext, places, &mut values);
+    add_row_listed(workspace, d, ext[d], &places[..n], &values[..n], starts)
 }
 
 // The number of samples, the sum of their targets and of the targets' squares.
@@ -207,6 +254,24 @@ pub fn predict(row: &[f64], beta: &[f64]) -> f64
         }
         sum = sum + row[k] * beta[k];
         k += 1;
+    }
+    float::canonical64(sum)
+}
+
+// The prediction of a row by its cells that are not zero, which `places` and `values` list, where no coefficient is a
+// NaN or an infinity: a zero times a finite number adds nothing to a sum that began at +0.0.
+pub fn predict_listed(places: &[usize], values: &[f64], beta: &[f64]) -> f64
+    requires { ⌜ allFinite (now beta) ≡ true ⌝ }
+    requires { ⌜ ((row : List Float) × ListedCells 0 (length (now beta)) (now places) (now values) row) ⌝ }
+    ensures { λ r. ⌜ ((row : List Float)
+        → ListedCells 0 (length (now (beta .entry))) (now (places .entry)) (now (values .entry)) row
+        → r ≡ dot row (now (beta .entry))) ⌝ }
+{
+    let mut sum = 0.0;
+    let mut p = 0usize;
+    while p < places.len() {
+        sum = sum + values[p] * beta[places[p]];
+        p += 1;
     }
     float::canonical64(sum)
 }

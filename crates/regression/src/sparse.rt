@@ -2,21 +2,24 @@
 // equations that are such places are visited at the places from there on.
 ghost use mathlib.Core.Path.{_≡_};
 ghost use mathlib.Core.Bool.{false, cond};
+ghost use mathlib.Core.List.{List};
 ghost use Prim.Native.Nat.{_+_, _-_, _≤_, _<_};
 ghost use lib.ListN.{length, take, drop, getD};
-ghost use lib.Ieee.{nan};
+ghost use lib.Ieee.{Float, nan};
 ghost use Rattle.float.specs.Value.{isZero};
 ghost use Rattle.matrix.specs.Rows.{flat};
 ghost use Rattle.matrix.specs.Lists.{zipped};
 ghost use Rattle.status.specs.Limits.{maxOrder};
 ghost use Rattle.regression.specs.Falling.{fallingRows, fallingStart};
 ghost use Rattle.regression.specs.Triangle.{addTriangleBy};
+ghost use Rattle.matrix.specs.Nonzero.{nonzeros, Listed};
 ghost use Rattle.regression.specs.Sparse.{
   allFinite,
-  nonzeros,
   plusNonzero,
   twoAdded,
   NextPlace,
+  ListedCells,
+  ListedRow,
   RowStarts,
   pairs,
   nonzeroColumns,
@@ -46,16 +49,18 @@ pub(crate) fn pairs(n: usize) -> u32
     k * (k + 1) / 2
 }
 
-// Gathers the places of the cells of `ext` that are not zero, and answers how many they are.
-fn gather(ext: &[f64], places: &mut [usize]) -> usize
-    requires { ⌜ length (now ext) ≤ length (now places) ⌝ }
+// Lists the cells of `ext` that are not zero, their places in `places` and what they are in `values`, and answers how
+// many they are.
+pub(crate) fn gather(ext: &[f64], places: &mut [usize], values: &mut [f64]) -> usize
+    requires { ⌜ (length (now ext) ≤ length (now places)) × (length (now ext) ≤ length (now values)) ⌝ }
     ensures { λ r. ⌜ r ≡ length (nonzeros 0 (now (ext .entry))) ⌝ }
-    ensures { λ r. ⌜ take r (now (places .exit)) ≡ nonzeros 0 (now (ext .entry)) ⌝ }
+    ensures { λ r. ⌜ Listed 0 (now (ext .entry)) (take r (now (places .exit))) (take r (now (values .exit))) ⌝ }
 {
     let mut n = 0usize;
     let mut j = 0usize;
     while j < ext.len() {
         places[n] = j;
+        values[n] = ext[j];
         if ext[j] != 0.0 {
             n += 1;
         }
@@ -75,35 +80,44 @@ fn columns(n: usize, target: f64) -> usize
     n - 1
 }
 
-// Adds `factor`, which is not zero, times `rest` to `row` at the places of the cells of `rest` that are not zero, the
-// first cell being at place j.
-fn add_places(row: &mut [f64], rest: &[f64], factor: f64, places: &[usize], j: usize)
-    requires { ⌜ length (now row) ≡ length (now rest) ⌝ }
+// Adds `factor`, which is not zero, times the listed values to `row` at their places, the first cell being at place j.
+fn add_places(row: &mut [f64], factor: f64, places: &[usize], values: &[f64], j: usize)
     requires { ⌜ isZero factor ≡ false ⌝ }
-    requires { ⌜ now places ≡ nonzeros j (now rest) ⌝ }
-    ensures { λ _. ⌜ now (row .exit) ≡ zipped (plusNonzero factor) (now (row .entry)) (now (rest .entry)) ⌝ }
+    requires { ⌜ ((rest : List Float) × ListedCells j (length (now row)) (now places) (now values) rest) ⌝ }
+    ensures { λ _. ⌜ ((rest : List Float)
+        → ListedCells j (length (now (row .entry))) (now (places .entry)) (now (values .entry)) rest
+        → now (row .exit) ≡ zipped (plusNonzero factor) (now (row .entry)) rest) ⌝ }
 {
     let mut p = 0usize;
     while p < places.len() {
         let c = places[p] - j;
-        row[c] = row[c] + factor * rest[c];
+        row[c] = row[c] + factor * values[p];
         p += 1;
     }
 }
 
-// Does what `add_places` does to two rows at once: the one begins with the first cell of `part` and gains `x` times
-// `rest`, the other begins at `gap` and gains `y` times `rest`. Neither `x` nor `y` is zero.
-fn add_both(part: &mut [f64], rest: &[f64], x: f64, y: f64, places: &[usize], j: usize, gap: usize)
-    requires { ⌜ (length (now rest) ≤ gap) × (length (now part) ≡ gap + length (now rest)) ⌝ }
+// Does what `add_places` does to two rows at once: the one begins with the first cell of `part` and gains `x` times the
+// values, the other begins at `gap` and gains `y` times the values. Neither `x` nor `y` is zero.
+fn add_both(
+    part: &mut [f64],
+    x: f64,
+    y: f64,
+    places: &[usize],
+    values: &[f64],
+    j: usize,
+    gap: usize,
+)
     requires { ⌜ (isZero x ≡ false) × (isZero y ≡ false) ⌝ }
-    requires { ⌜ now places ≡ nonzeros j (now rest) ⌝ }
-    ensures { λ _. ⌜ now (part .exit)
-        ≡ twoAdded x (now (rest .entry)) y (now (rest .entry)) gap (now (part .entry)) ⌝ }
+    requires { ⌜ (gap ≤ length (now part)) × (length (now part) - gap ≤ gap) ⌝ }
+    requires { ⌜ ((rest : List Float) × ListedCells j (length (now part) - gap) (now places) (now values) rest) ⌝ }
+    ensures { λ _. ⌜ ((rest : List Float)
+        → ListedCells j (length (now (part .entry)) - gap) (now (places .entry)) (now (values .entry)) rest
+        → now (part .exit) ≡ twoAdded x rest y rest gap (now (part .entry))) ⌝ }
 {
     let mut p = 0usize;
     while p < places.len() {
         let c = places[p] - j;
-        let v = rest[c];
+        let v = values[p];
         part[c] = part[c] + x * v;
         part[gap + c] = part[gap + c] + y * v;
         p += 1;
@@ -111,48 +125,55 @@ fn add_both(part: &mut [f64], rest: &[f64], x: f64, y: f64, places: &[usize], j:
 }
 
 // Adds a sample to two stored rows: that of place j, which begins with the first cell of `part`, and that of the next
-// place i, which begins at `gap`. `rest` is the sample from cell j on, and `places` are those of its cells that are not
-// zero.
-fn add_two_rows(part: &mut [f64], rest: &[f64], places: &[usize], j: usize, i: usize, gap: usize)
-    requires { ⌜ (length (now rest) ≤ gap) × (length (now part) ≡ gap + (length (now rest) - (i - j))) ⌝ }
-    requires { ⌜ NextPlace j i (now rest) (now places) ⌝ }
-    ensures { λ _. ⌜ (let xs = now (rest .entry) in let lead = i - j in
+// place i, which begins at `gap`. The places and values are those of the sample's cells from place j on.
+fn add_two_rows(part: &mut [f64], places: &[usize], values: &[f64], j: usize, i: usize, gap: usize)
+    requires { ⌜ ((rest : List Float)
+        × (length rest ≤ gap)
+        × (length (now part) ≡ gap + (length rest - (i - j)))
+        × NextPlace j i rest (now places) (now values)) ⌝ }
+    ensures { λ _. ⌜ ((xs : List Float)
+        → length (now (part .entry)) ≡ gap + (length xs - (i - j))
+        → length xs ≤ gap
+        → NextPlace j i xs (now (places .entry)) (now (values .entry))
+        → (let lead = i - j in
         now (part .exit)
-        ≡ twoAdded (getD xs 0 nan) xs (getD xs lead nan) (drop lead xs) gap (now (part .entry))) ⌝ }
+        ≡ twoAdded (getD xs 0 nan) xs (getD xs lead nan) (drop lead xs) gap (now (part .entry)))) ⌝ }
 {
     let lead = i - j;
-    let x = rest[0];
+    let x = values[0];
     part[0] = part[0] + x * x;
     add_both(
         &mut part[lead..],
-        &rest[lead..],
         x,
-        rest[lead],
+        values[1],
         &places[1..],
+        &values[1..],
         i,
         gap - lead,
     );
 }
 
-// Adds to the rows of `acc`, which are as `add_to_rows` has them, the products of two cells of `ext` that are not zero.
-// Answers how many columns are not zero. `places` is room, and `starts` says where each row starts.
-pub(crate) fn add_nonzero(
+// Adds to the rows of `acc`, which are as `add_to_rows` has them, the products of two cells that are not zero of a
+// sample of w cells, which is listed, and whose last cell is `target`. Answers how many columns are not zero. `starts`
+// says where each row starts.
+pub(crate) fn add_listed(
     acc: &mut [f64],
-    ext: &[f64],
-    places: &mut [usize],
+    w: usize,
+    target: f64,
+    places: &[usize],
+    values: &[f64],
     starts: &[usize],
 ) -> usize
-    requires { ⌜ (0 < length (now ext)) × (length (now ext) ≤ length (now places)) ⌝ }
-    requires { ⌜ length (now acc) ≡ fallingStart (length (now ext)) (length (now ext) - 1) ⌝ }
-    requires { ⌜ RowStarts (length (now ext) - 1) (now starts) ⌝ }
-    ensures { λ _. ⌜ (let w = length (now (ext .entry)) in
-        let rows = fallingRows w (w - 1) (now (acc .entry)) in
-        now (acc .exit) ≡ flat (addTriangleBy plusNonzero rows (now (ext .entry)))) ⌝ }
-    ensures { λ r. ⌜ r ≡ length (nonzeroColumns (now (ext .entry))) ⌝ }
+    requires { ⌜ ((ext : List Float) × ListedRow w target (now places) (now values) ext) ⌝ }
+    requires { ⌜ length (now acc) ≡ fallingStart w (w - 1) ⌝ }
+    requires { ⌜ RowStarts (w - 1) (now starts) ⌝ }
+    ensures { λ _. ⌜ ((ext : List Float) → ListedRow w target (now (places .entry)) (now (values .entry)) ext
+        → now (acc .exit) ≡ flat (addTriangleBy plusNonzero (fallingRows w (w - 1) (now (acc .entry))) ext)) ⌝ }
+    ensures { λ r. ⌜ ((ext : List Float) → ListedRow w target (now (places .entry)) (now (values .entry)) ext
+        → r ≡ length (nonzeroColumns ext)) ⌝ }
 {
-    let w = ext.len();
-    let n = gather(ext, places);
-    let k = columns(n, ext[w - 1]);
+    let n = places.len();
+    let k = columns(n, target);
     let mut m = 0usize;
     while m + 1 < k {
         let j = places[m];
@@ -162,8 +183,8 @@ pub(crate) fn add_nonzero(
         let end = below + (w - i);
         add_two_rows(
             &mut acc[start..end],
-            &ext[j..],
             &places[m..n],
+            &values[m..n],
             j,
             i,
             below - start,
@@ -174,7 +195,13 @@ pub(crate) fn add_nonzero(
         let j = places[m];
         let start = starts[j];
         let end = start + (w - j);
-        add_places(&mut acc[start..end], &ext[j..], ext[j], &places[m..n], j);
+        add_places(
+            &mut acc[start..end],
+            values[m],
+            &places[m..n],
+            &values[m..n],
+            j,
+        );
     }
     k
 }

@@ -1,20 +1,19 @@
--- `regression::add_row_sparse` meets its contract: a sample that is not finite goes to `add_row`, another is added to the
--- stored part, which is lent to `add_nonzero` and comes back.
-use mathlib.Core.Path.{_≡_, sym, ap, _∙_}
+-- `regression::add_row_sparse` meets its contract: a sample that is not finite goes to `add_row`, and of another the cells
+-- that are not zero are listed and go to `add_row_listed`.
+use mathlib.Core.Path.{_≡_, refl, sym, ap, _∙_}
 use mathlib.Core.Bool.{true, false}
 use mathlib.Core.List.{List}
-use Prim.Native.Nat.{ℕ, _+_, _-_}
+use Prim.Native.Nat.{ℕ, _+_, _-_, _≤_}
 use native.Mathlib.Omega.{arith}
-use lib.Ieee.{Float}
-use lib.ListN.{length, take, drop}
+use lib.Ieee.{Float, nan}
+use lib.ListN.{length, getD, take}
 use lib.Seq.{length-take-le}
 use denote.Ref.{now}
 use borrow.Author.Tests.{not-true, not-false}
-use Rattle.regression.specs.Falling.{fallingRows}
-use Rattle.regression.specs.Sparse.{allFinite, pairs, addVisited, visited}
-use Rattle.regression.specs.Workspace.{systemLength, stored}
-use Rattle.regression.proofs.Visited.{nonzeros-few}
-use Rattle.regression.proofs.Workspace.{part-is, part-length, part-back, add-stored}
+use Rattle.matrix.proofs.Nonzero.{nonzeros-few}
+use Rattle.regression.specs.Sparse.{allFinite, ListedRow, addVisited, visited}
+use Rattle.regression.proofs.Dot.{finite-cells}
+use Rattle.regression.proofs.Workspace.{add-stored}
 use borrow.Author.Needs.{needs}
 use Rattle.regression.proofs.add_row_sparse.Statement.{statement}
 use Rattle.regression.proofs.add_row_sparse.Tie as tie
@@ -23,32 +22,50 @@ use Rattle.regression.proofs.add_row_sparse.Tie as tie
 abbrev begun : tie.After-all-finite → tie.Start
 begun c = c .before .before .before .before .before
 
--- where the stored part is lent, and what the function was passed
-module _ (o : tie.After-system-length) where
+-- what was passed, and what is listed of it
+module _ (o : tie.After-gather) where
+  abbrev tested : tie.After-all-finite
+  tested = o .before .before .before .before
+
   abbrev s : tie.Start
-  s = begun (o .before .before)
-
-  abbrev d : ℕ
-  d = s .args .d
-
-  abbrev ws : List Float
-  ws = now (s .args .workspace)
+  s = begun tested
 
   abbrev ext : List Float
   ext = now (s .args .ext)
 
-  abbrev split : ℕ
-  split = o .system-length .result
+  abbrev n : ℕ
+  n = o .gather .result
+
+  abbrev places : List ℕ
+  places = o .gather .last .1 .0
+
+  abbrev values : List Float
+  values = o .gather .last .1 .1 .0
 
   finite : allFinite ext ≡ true
-  finite = sym (o .before .before .all-finite .ensures) ∙ not-false _ (o .before .if1 .left)
+  finite = sym (tested .all-finite .ensures) ∙ not-false _ (o .before .before .before .if1 .left)
 
-  -- the stored part and its rows
-  part : take (length ws - split) (drop split ws) ≡ drop (systemLength d) ws
-  part = part-is d split ws (s .pre .0 .0 .count) (o .system-length .ensures)
+  listed-finite : allFinite (take n values) ≡ true
+  listed-finite = ap allFinite (o .gather .ensures .1 .values-are) ∙ finite-cells ext ∙ finite
 
-  rows : fallingRows (length ext) (length ext - 1) (take (length ws - split) (drop split ws)) ≡ stored d ws
-  rows = let w : length ext ≡ d + 1 = s .pre .0 .1 in let n : d + 1 - 1 ≡ d = omega arith in rw (w, n, part)
+  row : ListedRow (s .args .d + 1) (getD ext (s .args .d) nan) (take n places) (take n values) ext
+  row = record {
+    wide = s .pre .0 .1;
+    some = omega arith;
+    listed = o .gather .ensures .1;
+    last = ap (λ (k : ℕ). getD ext k nan) {x = s .args .d + 1 - 1} {y = s .args .d} (omega arith);
+  }
+
+  -- no more than there is room for
+  few : (n ≤ length places) × (n ≤ 101) × (length values ≡ 101)
+  few =
+      let e = nonzeros-few 0 ext in
+      let f = o .gather .ensures .0 in
+      let k = o .gather .kept in (
+        omega (arith, e, f, s .pre .0 .1, s .pre .1 .0, k .1 .0),
+        omega (arith, e, f, s .pre .0 .1, s .pre .0 .0 .order),
+        k .1 .1 .0,
+      )
 
 all-finite-requires : tie.Need-all-finite-requires
 all-finite-requires c κs = search needs
@@ -77,42 +94,36 @@ returns c =
       c .pairs .ensures ∙ rw (not-all, order),
     )
 
-system-length-requires : tie.Need-system-length-requires
-system-length-requires c κs = search needs
+slice-aggregate-gather : tie.Need-slice-aggregate-gather
+slice-aggregate-gather c = search needs
 
-mul-add-nonzero : tie.Need-mul-add-nonzero
-mul-add-nonzero c = search needs
+gather-requires : tie.Need-gather-requires
+gather-requires c κs = search needs
 
-sub-add-nonzero : tie.Need-sub-add-nonzero
-sub-add-nonzero c = search needs
+mul-add-row-listed : tie.Need-mul-add-row-listed
+mul-add-row-listed c = search needs
 
-part-add-nonzero-start : tie.Need-part-add-nonzero-start
-part-add-nonzero-start c = search needs
+shared-slice-read-add-row-listed : tie.Need-shared-slice-read-add-row-listed
+shared-slice-read-add-row-listed c = search needs
 
-part-add-nonzero-end : tie.Need-part-add-nonzero-end
-part-add-nonzero-end c = search needs
+slice-reshare-prefix-add-row-listed : tie.Need-slice-reshare-prefix-add-row-listed
+slice-reshare-prefix-add-row-listed c = let f = few (c .before .before .before .before .before) in omega (arith, f .0, f .1, f .2)
 
-add-nonzero-requires : tie.Need-add-nonzero-requires
-add-nonzero-requires c κs =
-    let o = c .before .before in
-    let w : length (ext o) ≡ d o + 1 = s o .pre .0 .1 in
-    let n : d o + 1 - 1 ≡ d o = omega arith in
-    let e = ap length (part o)
-    ∙ part-length (d o) (split o) (ws o) (s o .pre .0 .0 .count) (o .system-length .ensures) in
-    ((omega arith, omega arith), (rw (w, n) e, rw (w, n) (s o .pre .1 .1)))
+slice-aggregate-add-row-listed : tie.Need-slice-aggregate-add-row-listed
+slice-aggregate-add-row-listed c =
+    let o = c .before .before .before .before .before .before in sym (length-take-le (n o) (places o) (few o .0))
 
-pairs-requires-2 : tie.Need-pairs-requires-2
-pairs-requires-2 c κs =
-    let n = c .before .before .before .before in
-    let o = n .before .before .before in
-    let k = length-take-le (length (ext o) - 1) (ext o) (omega arith) in
-    omega (
-      arith,
-      n .add-nonzero .ensures .1,
-      k,
-      s o .pre .0 .0 .order,
-      nonzeros-few 0 (take (length (ext o) - 1) (ext o)),
-    )
+array-share-prefix-values : tie.Need-array-share-prefix-values
+array-share-prefix-values c = let f = few (c .before .before .before .before .before .before) in omega (arith, f .0, f .1, f .2)
+
+slice-aggregate-add-row-listed-2 : tie.Need-slice-aggregate-add-row-listed-2
+slice-aggregate-add-row-listed-2 c =
+    let o = c .before .before .before .before .before .before .before in sym (length-take-le (n o) (values o) (omega (arith, few o .1, few o .2)))
+
+add-row-listed-requires : tie.Need-add-row-listed-requires
+add-row-listed-requires c κs =
+    let o = c .before .before .before .before .before .before .before in
+    ((s o .pre .0 .0, s o .pre .1 .1), (listed-finite o, (ext o, row o)))
 
 same-length-2 : tie.Need-same-length-2
 same-length-2 c = search needs
@@ -121,15 +132,10 @@ same-length-3 : tie.Need-same-length-3
 same-length-3 c = search needs
 
 returns-2 : tie.Need-returns-2
-unfolding addVisited visited
 returns-2 c =
-    let n = c .before .before .before .before .before in
-    let o = n .before .before .before in (
-      part-back (d o) (split o) (ws o) (s o .pre .0 .0 .count) (o .system-length .ensures) _ _
-          (rw (rows o) at (n .add-nonzero .ensures .0))
-          ∙ rw (finite o),
-      c .pairs2 .ensures ∙ rw (finite o) (ap pairs (n .add-nonzero .ensures .1)),
-    )
+    let e = c .before .before .add-row-listed .ensures in
+    let o = c .before .before .before .before .before .before .before .before .before .before in
+    (e .0 (ext o) (row o), e .1 (ext o) (row o))
 
 pub add-row-sparse-spec : {M : Type 1} → statement M
 add-row-sparse-spec =
@@ -140,13 +146,15 @@ add-row-sparse-spec =
     pairs-requires
     same-length
     returns
-    system-length-requires
-    mul-add-nonzero
-    sub-add-nonzero
-    part-add-nonzero-start
-    part-add-nonzero-end
-    add-nonzero-requires
-    pairs-requires-2
+    slice-aggregate-gather
+    gather-requires
+    mul-add-row-listed
+    shared-slice-read-add-row-listed
+    slice-reshare-prefix-add-row-listed
+    slice-aggregate-add-row-listed
+    array-share-prefix-values
+    slice-aggregate-add-row-listed-2
+    add-row-listed-requires
     same-length-2
     same-length-3
     returns-2)

@@ -2,7 +2,7 @@
 -- (`made`), the cells between the rows are as they were, and the places that are left are those of the cells from u on.
 use mathlib.Core.Path.{_≡_, refl, sym, ap, ap₂, _∙_}
 use mathlib.Core.List.{List, _++_}
-use Prim.Native.Nat.{ℕ, suc, _+_, _-_, _≤_}
+use Prim.Native.Nat.{ℕ, suc, _+_, _-_, _≤_, _<_}
 use native.Mathlib.Omega.{arith}
 use lib.ListN.{length, getD, set, take, drop, length-set, length-drop, take-append-drop}
 use lib.Seq.{length-take-le, drop-drop}
@@ -10,8 +10,9 @@ use lib.Ieee.{Float, nan}
 use denote.Ref.{now}
 use Rattle.elimination.proofs.Made.{made, length-made}
 use Rattle.regression.specs.Regression.{plusScaled}
+use Rattle.regression.specs.Sparse.{ListedCells}
 use Rattle.regression.proofs.Visited.{Next}
-use Rattle.regression.proofs.Places.{Left, left-all, left-none, next-left, left-next}
+use Rattle.regression.proofs.Places.{Left, left-all, left-none, next-left, left-next, values-long, value-at}
 use Rattle.regression.proofs.Places.{scaledCell, row-next, row-all, two-cells}
 use borrow.Author.Needs.{needs}
 use Rattle.regression.proofs.sparse.add_both.Statement.{statement}
@@ -58,33 +59,64 @@ module _ (rest part₀ : List Float) (gap : ℕ) (low : length rest ≤ gap) (lo
       ∙ ap (λ (t : List Float). between rest part₀ gap ++ t) far)
 
 abbrev Inv-loop : tie.InvT-loop
-Inv-loop part₀ rest x y places j gap p₀ part p =
+Inv-loop part₀ x y places values j gap p₀ part p =
     (p ≤ length places)
     × (length part ≡ length part₀)
-    × ((u : ℕ) × Left j rest places p u × (part ≡ bothMade x y rest part₀ gap u))
+    × ((rest : List Float) → ListedCells j (length part₀ - gap) places values rest
+    → (u : ℕ) × Left j rest places p u × (part ≡ bothMade x y rest part₀ gap u))
 
 abbrev μ-loop : tie.MeasureT-loop
-μ-loop part₀ rest x y places j gap p₀ part p = length places - p
+μ-loop part₀ x y places values j gap p₀ part p = length places - p
 
--- the place of a turn
-turn : (c : tie.In-loop Inv-loop μ-loop)
-    → let a = c .before .before .args in let l = c .before .loop in
-    Next (a .j) (l .inv .2 .0) (now (a .rest)) (getD (now (a .places)) (l .p) 0) (drop (suc (l .p)) (now (a .places)))
-turn c =
-    let a = c .before .before .args in
-    let l = c .before .loop in
-    next-left (a .j) (now (a .rest)) (now (a .places)) (l .p) (l .inv .2 .0) (l .inv .2 .1) (omega arith)
+-- the place of a turn, whatever the cells that are listed
+module _ (c : tie.In-loop Inv-loop μ-loop) where
+  abbrev s : tie.Start Inv-loop μ-loop
+  s = c .before .before
+
+  module _ (rest : List Float)
+      (g : ListedCells (s .args .j) (length (now (s .args .part)) - s .args .gap) (now (s .args .places)) (now (s .args .values)) rest)
+    where
+      turn : Next (s .args .j) (c .before .loop .inv .2 rest g .0) rest (getD (now (s .args .places)) (c .before .loop .p) 0)
+          (drop (suc (c .before .loop .p)) (now (s .args .places)))
+      turn =
+          let m = c .before .loop .inv .2 rest g in
+          next-left (s .args .j) rest (now (s .args .places)) (c .before .loop .p) (m .0) (m .1) (omega arith)
+
+      value : getD (now (s .args .values)) (c .before .loop .p) nan
+          ≡ getD rest (getD (now (s .args .places)) (c .before .loop .p) 0 - s .args .j) nan
+      value =
+          let m = c .before .loop .inv .2 rest g in
+          value-at (s .args .j) rest (now (s .args .places)) (now (s .args .values)) (g .listed) (c .before .loop .p) (m .0) (m .1)
+          (omega arith)
+
+  -- within the rows, and as many values as places
+  within : (s .args .j ≤ getD (now (s .args .places)) (c .before .loop .p) 0)
+      × (getD (now (s .args .places)) (c .before .loop .p) 0 - s .args .j < length (now (s .args .part)) - s .args .gap)
+      × (length (now (s .args .values)) ≡ length (now (s .args .places)))
+  within =
+      let g = s .pre .1 .1 in
+      let n = turn (g .0) (g .1) in (
+        omega (arith, n .from),
+        omega (arith, n .from, n .within, g .1 .wide),
+        values-long (s .args .j) (g .0) (now (s .args .places)) (now (s .args .values)) (g .1 .listed),
+      )
+
+  -- the second row lies past the first, in the part
+  room : (s .args .gap ≤ length (now (s .args .part)))
+      × (length (now (s .args .part)) - s .args .gap ≤ s .args .gap)
+  room = s .pre .1 .0
 
 loop-holds : tie.Need-loop-holds Inv-loop μ-loop
 unfolding made
 loop-holds c =
-    let a = c .args in (
+    let a = c .args in
+    let r = c .pre .1 .0 in (
       search needs,
       refl,
-      (
+      λ rest g. (
         0,
-        left-all (a .j) (now (a .rest)) (now (a .places)) (c .pre .1 .1),
-        three (now (a .rest)) (now (a .part)) (a .gap) (c .pre .0 .0) (c .pre .0 .1),
+        left-all (a .j) rest (now (a .places)) (g .listed .places-are),
+        three rest (now (a .part)) (a .gap) (omega (arith, g .wide, r .0, r .1)) (omega (arith, g .wide, r .0, r .1)),
       ),
     )
 
@@ -95,43 +127,43 @@ shared-slice-read-c : tie.Need-shared-slice-read-c Inv-loop μ-loop
 shared-slice-read-c c = search needs
 
 sub-c : tie.Need-sub-c Inv-loop μ-loop
-sub-c c = let n = turn (c .before) in omega (arith, n .from, n .within)
+sub-c c = let n = within (c .before) in let r = room (c .before) in omega (arith, n .0, n .1, n .2, r .0, r .1)
 
 mul-v : tie.Need-mul-v Inv-loop μ-loop
-mul-v c = let n = turn (c .before) in omega (arith, n .from, n .within)
+mul-v c = let n = within (c .before) in let r = room (c .before) in omega (arith, n .0, n .1, n .2, r .0, r .1)
 
 shared-slice-read-v : tie.Need-shared-slice-read-v Inv-loop μ-loop
-shared-slice-read-v c = let n = turn (c .before .before) in omega (arith, n .from, n .within)
+shared-slice-read-v c = let n = within (c .before .before) in let r = room (c .before .before) in omega (arith, n .0, n .1, n .2, r .0, r .1)
 
 mul-part : tie.Need-mul-part Inv-loop μ-loop
-mul-part c = let n = turn (c .before .before) in omega (arith, n .from, n .within)
+mul-part c = let n = within (c .before .before) in let r = room (c .before .before) in omega (arith, n .0, n .1, n .2, r .0, r .1)
 
 slice-read-part : tie.Need-slice-read-part Inv-loop μ-loop
-slice-read-part c = let n = turn (c .before .before .before) in omega (arith, n .from, n .within)
+slice-read-part c = let n = within (c .before .before .before) in let r = room (c .before .before .before) in omega (arith, n .0, n .1, n .2, r .0, r .1)
 
 mul-part-2 : tie.Need-mul-part-2 Inv-loop μ-loop
-mul-part-2 c = let n = turn (c .before .before .before) in omega (arith, n .from, n .within)
+mul-part-2 c = let n = within (c .before .before .before) in let r = room (c .before .before .before) in omega (arith, n .0, n .1, n .2, r .0, r .1)
 
 slice-write-part : tie.Need-slice-write-part Inv-loop μ-loop
-slice-write-part c = let n = turn (c .before .before .before) in omega (arith, n .from, n .within)
+slice-write-part c = let n = within (c .before .before .before) in let r = room (c .before .before .before) in omega (arith, n .0, n .1, n .2, r .0, r .1)
 
 add-part : tie.Need-add-part Inv-loop μ-loop
-add-part c = let n = turn (c .before .before .before) in omega (arith, n .from, n .within)
+add-part c = let n = within (c .before .before .before) in let r = room (c .before .before .before) in omega (arith, n .0, n .1, n .2, r .0, r .1)
 
 mul-part-3 : tie.Need-mul-part-3 Inv-loop μ-loop
-mul-part-3 c = let n = turn (c .before .before .before) in omega (arith, n .from, n .within)
+mul-part-3 c = let n = within (c .before .before .before) in let r = room (c .before .before .before) in omega (arith, n .0, n .1, n .2, r .0, r .1)
 
 slice-read-part-2 : tie.Need-slice-read-part-2 Inv-loop μ-loop
-slice-read-part-2 c = let n = turn (c .before .before .before .before) in simp length-set (omega (arith, n .from, n .within))
+slice-read-part-2 c = let n = within (c .before .before .before .before) in let r = room (c .before .before .before .before) in simp length-set (omega (arith, n .0, n .1, n .2, r .0, r .1))
 
 add-part-2 : tie.Need-add-part-2 Inv-loop μ-loop
-add-part-2 c = let n = turn (c .before .before .before .before) in omega (arith, n .from, n .within)
+add-part-2 c = let n = within (c .before .before .before .before) in let r = room (c .before .before .before .before) in omega (arith, n .0, n .1, n .2, r .0, r .1)
 
 mul-part-4 : tie.Need-mul-part-4 Inv-loop μ-loop
-mul-part-4 c = let n = turn (c .before .before .before .before) in omega (arith, n .from, n .within)
+mul-part-4 c = let n = within (c .before .before .before .before) in let r = room (c .before .before .before .before) in omega (arith, n .0, n .1, n .2, r .0, r .1)
 
 slice-write-part-2 : tie.Need-slice-write-part-2 Inv-loop μ-loop
-slice-write-part-2 c = let n = turn (c .before .before .before .before) in simp length-set (omega (arith, n .from, n .within))
+slice-write-part-2 c = let n = within (c .before .before .before .before) in let r = room (c .before .before .before .before) in simp length-set (omega (arith, n .0, n .1, n .2, r .0, r .1))
 
 add-p : tie.Need-add-p Inv-loop μ-loop
 add-p c = search needs
@@ -143,36 +175,44 @@ loop-again : tie.Need-loop-again Inv-loop μ-loop
 loop-again c =
     let t = c .before .before .before .before in
     let l = t .before .loop in
-    let s = t .before .before in
-    let a = s .args in
-    let rest = now (a .rest) in
-    let u : ℕ = l .inv .2 .0 in
+    let a = s t .args in
     let k : ℕ = getD (now (a .places)) (l .p) 0 - a .j in
-    let v : Float = getD rest k nan in
+    let w : Float = getD (now (a .values)) (l .p) nan in
     let part₀ = now (a .part) in
-    let n = turn t in
-    let e = one-long rest part₀ (a .gap) (s .pre .0 .0) (s .pre .0 .1) in
-    let between-is = between-long rest part₀ (a .gap) (s .pre .0 .0) (s .pre .0 .1) in
-    let first : List Float = made (scaledCell (a .x) rest) u (one rest part₀ (a .gap)) in
-    let second : List Float = made (scaledCell (a .y) rest) u (other rest part₀ (a .gap)) in
-    let first-long : length first ≡ length rest = length-made (scaledCell (a .x) rest) u _ ∙ e in (
+    let r = room t in (
       omega arith,
       simp length-set (l .inv .1),
-      (
-        suc k,
-        left-next (a .j) rest (now (a .places)) (l .p) u (l .inv .2 .1) (omega arith),
-        ap
-            (λ (r : List Float).
-            set (set r k (plusScaled (a .x) (getD r k nan) v)) (a .gap + k)
-            (plusScaled (a .y) (getD (set r k (plusScaled (a .x) (getD r k nan) v)) (a .gap + k) nan) v))
-            (l .inv .2 .2)
-            ∙ two-cells first (between rest part₀ (a .gap)) second (a .gap) k
-            (λ d. plusScaled (a .x) d v) (λ d. plusScaled (a .y) d v)
-            (omega (arith, first-long, n .from, n .within)) (omega (arith, first-long, between-is, s .pre .0 .0))
-            ∙ ap₂ (λ (xs ys : List Float). xs ++ (between rest part₀ (a .gap) ++ ys))
-            (row-next (a .x) rest (one rest part₀ (a .gap)) (s .pre .1 .0 .0) (a .j) u _ _ n)
-            (row-next (a .y) rest (other rest part₀ (a .gap)) (s .pre .1 .0 .1) (a .j) u _ _ n),
-      ),
+      λ rest g.
+          let m = l .inv .2 rest g in
+          let u : ℕ = m .0 in
+          let v : Float = getD rest k nan in
+          let n = turn t rest g in
+          let low : length rest ≤ a .gap = omega (arith, g .wide, r .0, r .1) in
+          let long : length part₀ ≡ a .gap + length rest = omega (arith, g .wide, r .0, r .1) in
+          let e = one-long rest part₀ (a .gap) low long in
+          let between-is = between-long rest part₀ (a .gap) low long in
+          let first : List Float = made (scaledCell (a .x) rest) u (one rest part₀ (a .gap)) in
+          let second : List Float = made (scaledCell (a .y) rest) u (other rest part₀ (a .gap)) in
+          let first-long : length first ≡ length rest = length-made (scaledCell (a .x) rest) u _ ∙ e in (
+            suc k,
+            left-next (a .j) rest (now (a .places)) (l .p) u (m .1) (omega arith),
+            ap
+                (λ (z : Float).
+                set (set (l .part) k (plusScaled (a .x) (getD (l .part) k nan) z)) (a .gap + k)
+                (plusScaled (a .y) (getD (set (l .part) k (plusScaled (a .x) (getD (l .part) k nan) z)) (a .gap + k) nan) z))
+                (value t rest g)
+                ∙ ap
+                (λ (r : List Float).
+                set (set r k (plusScaled (a .x) (getD r k nan) v)) (a .gap + k)
+                (plusScaled (a .y) (getD (set r k (plusScaled (a .x) (getD r k nan) v)) (a .gap + k) nan) v))
+                (m .2)
+                ∙ two-cells first (between rest part₀ (a .gap)) second (a .gap) k
+                (λ d. plusScaled (a .x) d v) (λ d. plusScaled (a .y) d v)
+                (omega (arith, first-long, n .from, n .within)) (omega (arith, first-long, between-is, low))
+                ∙ ap₂ (λ (xs ys : List Float). xs ++ (between rest part₀ (a .gap) ++ ys))
+                (row-next (a .x) rest (one rest part₀ (a .gap)) (s t .pre .0 .0) (a .j) u _ _ n)
+                (row-next (a .y) rest (other rest part₀ (a .gap)) (s t .pre .0 .1) (a .j) u _ _ n),
+          ),
     )
 
 same-length : tie.Need-same-length Inv-loop μ-loop
@@ -183,16 +223,19 @@ returns c =
     let l = c .before .loop in
     let s = c .before .before in
     let a = s .args in
-    let rest = now (a .rest) in
+    let r = s .pre .1 .0 in
     let part₀ = now (a .part) in
-    let u : ℕ = l .inv .2 .0 in
-    let none = left-none (a .j) rest (now (a .places)) (l .p) u (l .inv .2 .1) (omega arith) in
-    l .inv .2 .2
+    λ rest g.
+    let m = l .inv .2 rest g in
+    let low : length rest ≤ a .gap = omega (arith, g .wide, r .0, r .1) in
+    let long : length part₀ ≡ a .gap + length rest = omega (arith, g .wide, r .0, r .1) in
+    let none = left-none (a .j) rest (now (a .places)) (l .p) (m .0) (m .1) (omega arith) in
+    m .2
     ∙ ap₂ (λ (xs ys : List Float). xs ++ (between rest part₀ (a .gap) ++ ys))
-    (row-all (a .x) rest (one rest part₀ (a .gap)) (s .pre .1 .0 .0) (a .j) u none
-    (one-long rest part₀ (a .gap) (s .pre .0 .0) (s .pre .0 .1)))
-    (row-all (a .y) rest (other rest part₀ (a .gap)) (s .pre .1 .0 .1) (a .j) u none
-    (other-long rest part₀ (a .gap) (s .pre .0 .0) (s .pre .0 .1)))
+    (row-all (a .x) rest (one rest part₀ (a .gap)) (s .pre .0 .0) (a .j) (m .0) none
+    (one-long rest part₀ (a .gap) low long))
+    (row-all (a .y) rest (other rest part₀ (a .gap)) (s .pre .0 .1) (a .j) (m .0) none
+    (other-long rest part₀ (a .gap) low long))
 
 pub add-both-spec : {M : Type 1} → statement M
 add-both-spec =
