@@ -4,4 +4,5 @@ pub mod Parts
 pub mod Rows
 pub mod Shape
 pub mod Elimination
+pub mod Plain
 pub mod Ridges

@@ -7,7 +7,7 @@ use native.Mathlib.Nat.{mul-le-mul-right, suc-mul}
 use native.Mathlib.Numerals.{add-one}
 use native.Mathlib.Omega.{arith}
 use lib.ListN.{length, take, drop, set}
-use lib.Seq.{length-take-le}
+use lib.Seq.{length-take-le, take-take}
 use Rattle.matrix.specs.Rows.{rowsOf}
 use borrow.Rule.Slice.PartMut.{same-len-mid}
 use Rattle.matrix.proofs.Laws.{
@@ -21,7 +21,7 @@ use Rattle.matrix.proofs.Laws.{
   drop-rowsOf,
 }
 use Rattle.elimination.specs.Rows.{rowOf, augmented}
-use Rattle.elimination.proofs.Made.{made, made-suc}
+use Rattle.elimination.proofs.Made.{made, made-suc, made-later}
 use Rattle.elimination.proofs.Parts.{part-length}
 
 -- the start of the next row, and of the one before
@@ -48,12 +48,13 @@ abbrev pub MadeIn : {A : Type 0} → (m : ℕ) (rows : List A → List (List A))
 MadeIn m rows start g xs₀ xs at i =
     (i ≤ m) × (at ≡ start i) × (rows xs ≡ made g i (rows xs₀)) × (length xs ≡ length xs₀)
 
--- A turn of the loop, at row i: the part from `at` on, v cells long, is lent. It lies within the list and is a row;
--- made anew, it leaves one row more made anew.
+-- A turn of the loop, at row i: the part from `at` on, v cells long, is lent. It lies within the list and is row i as
+-- it was; made anew, it leaves one row more made anew.
 pub record TurnIn {A : Type 0} (m : ℕ) (rows : List A → List (List A)) (start : ℕ → ℕ) (g : ℕ → List A → List A)
     (xs₀ xs : List A) (at v i : ℕ) : Type 0 where
   pub fits : at + v ≤ length xs
   pub part : length (take (at + v - at) (drop at xs)) ≡ v
+  pub row : take (at + v - at) (drop at xs) ≡ rowOf (rows xs₀) i
   pub next : (r : List A) → length r ≡ length (take (at + v - at) (drop at xs))
       → r ≡ g i (take (at + v - at) (drop at xs))
       → MadeIn m rows start g xs₀ (take at xs ++ (r ++ drop (at + v - at) (drop at xs))) (at + v) (i + 1)
@@ -80,6 +81,10 @@ module _ {A : Type 0} (m : ℕ) (rows : List A → List (List A)) (start wide : 
       record {
         fits = f;
         part = p;
+        row =
+            rw (k, ev, inv .1) (sym (layout .row-is i xs h))
+            ∙ ap (λ (rs : List (List A)). rowOf rs i) (inv .2)
+            ∙ made-later g i (rows xs₀) [];
         next = λ r kept e. (
           omega arith,
           rw (add-one i, layout .row-next i, ← inv .1, ev),
@@ -106,6 +111,17 @@ module _ {A : Type 0} (w n i a : ℕ) (cells : List A) (h : i < n) (l : length c
       ap (λ (k : ℕ). take k copy) (sym lent-length)
       ∙ same
       ∙ rw (add-sub-cancel-left, e) (sym (row-rowsOf w n i cells h))
+
+-- the part that is the left cells of row i
+pub left-part : {A : Type 0} (n w i a : ℕ) (cells : List A) → i < n → n ≤ w → a ≡ i * w
+    → take (a + n - a) (drop a cells) ≡ take n (rowOf (rowsOf w n cells) i)
+left-part n w i a cells h l e =
+    rw (add-sub-cancel-left, row-rowsOf w n i cells h, take-take n w (drop (i * w) cells) l, e) refl
+
+-- the rows before row i, which starts at a
+pub front-rows : {A : Type 0} (w n i a : ℕ) (cells : List A) → i ≤ n → a ≡ i * w
+    → rowsOf w i (take a cells) ≡ take i (rowsOf w n cells)
+front-rows w n i a cells h e = rowsOf-take w i a cells (omega arith) ∙ sym (take-rowsOf w n i cells h)
 
 -- ---- rows of one width
 

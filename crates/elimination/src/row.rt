@@ -1,8 +1,10 @@
 // Operations on one row.
 ghost use mathlib.Core.Path.{_≡_};
 ghost use mathlib.Core.List.{map};
+ghost use mathlib.Core.Bool.{true, not, _&&_, cond};
 ghost use Prim.Native.Nat.{_≤_, _<_};
 ghost use lib.ListN.{length};
+ghost use Rattle.float.specs.Value.{isFinite, notMinusZero};
 ghost use Rattle.matrix.specs.Lists.{zipped};
 ghost use Rattle.elimination.specs.Elimination.{
   lessScaled,
@@ -12,6 +14,7 @@ ghost use Rattle.elimination.specs.Elimination.{
   divided,
   lessMultiple,
 };
+ghost use Rattle.elimination.specs.Plain.{Plain, Zeros};
 
 // Subtracts `factor` times `src` from `dst`, cell by cell, each product and each difference rounded once.
 pub(crate) fn subtract_scaled(dst: &mut [f64], src: &[f64], factor: f64)
@@ -74,11 +77,52 @@ pub(crate) fn divide_row(row: &mut [f64], n: usize)
     }
 }
 
-// Subtracts from a row the multiple of `by` that clears column j.
-pub(crate) fn subtract_multiple(row: &mut [f64], by: &[f64], j: usize)
-    requires { ⌜ (j < length (now row)) × (length (now row) ≡ length (now by)) ⌝ }
+// Whether x is -0.0.
+fn is_minus_zero(x: f64) -> bool
+    ensures { λ r. ⌜ r ≡ not (notMinusZero x) ⌝ }
+{
+    if x == 0.0 {
+        return float::bits64(x) != 0;
+    }
+    false
+}
+
+// Whether no cell is -0.0.
+pub(crate) fn is_plain(row: &[f64]) -> bool
+    ensures { λ r. ⌜ (r ≡ true → Plain (length (now (row .entry))) (now (row .entry))) ⌝ }
+{
+    let mut j = 0;
+    while j < row.len() {
+        if is_minus_zero(row[j]) {
+            return false;
+        }
+        j += 1;
+    }
+    true
+}
+
+// The first cell that `factor` times a row can change in another, where the row's first j cells are zeros. A finite
+// factor gives zeros there, which change only -0.0: where the other row has none, the cells before j stay.
+fn first_changed(plain: bool, factor: f64, j: usize) -> usize
+    ensures { λ r. ⌜ r ≡ cond (plain && isFinite factor) j 0 ⌝ }
+{
+    if plain {
+        if float::is_finite64(factor) {
+            return j;
+        }
+    }
+    0
+}
+
+// Subtracts from a row the multiple of `by` that clears column j, the first cell of `by` that is not zero. `plain` says
+// that no cell of the row before j is -0.0.
+pub(crate) fn subtract_multiple(row: &mut [f64], by: &[f64], j: usize, plain: bool)
+    requires { ⌜ (j < length (now row)) × (length (now row) ≡ length (now by))
+        × Zeros j (now by)
+        × (plain ≡ true → Plain j (now row)) ⌝ }
     ensures { λ _. ⌜ now (row .exit) ≡ lessMultiple j (now (by .entry)) (now (row .entry)) ⌝ }
 {
     let factor = row[j] / by[j];
-    subtract_scaled(row, by, factor);
+    let start = first_changed(plain, factor, j);
+    subtract_scaled(&mut row[start..], &by[start..], factor);
 }

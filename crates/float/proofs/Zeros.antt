@@ -1,10 +1,10 @@
 -- Zeros in sums, in any format: a zero times a finite number is a zero of one of the signs, a rounded sum is -0.0 only
--- where both terms are, and so a sum that began at +0.0 is never -0.0, and no zero changes it. What x == 0.0 and
--- x * 0.0 != 0.0 test.
+-- where both terms are, and so a sum that began at +0.0 is never -0.0, and no zero changes it. The same of differences.
+-- What x == 0.0 and x * 0.0 != 0.0 test, and the patterns of the zeros.
 use mathlib.Core.Path.{_≡_, refl, sym, ap, ap₂, _∙_, subst}
 use mathlib.Core.Bool.{Bool, true, false, not, _&&_, _||_, Bool·beq, cond, false≢true, true≢false}
 use Prim.Native.Nat.{ℕ, zero, suc, _+_, _-_, _*_, _/_, _%_, _^_, _≤_, _<_, compare}
-use native.Mathlib.Nat.{mul-comm, mul-one, one-mul, zero-mul, mul-pos, add-zero, zero-lt-suc, sub-zero, le-trans}
+use native.Mathlib.Nat.{mul-comm, mul-one, one-mul, zero-mul, mul-pos, add-zero, zero-lt-suc, sub-zero, zero-div, le-trans}
 use native.Mathlib.Nat.{le-of-eq, not-le-of-lt, lt-irrefl, le-div-iff-mul-le, le-of-suc-le-suc, lt-of-not-le}
 use native.Mathlib.Nat.{lt-of-lt-of-le, mul-assoc, mul-right-comm, mul-sub, mul-lt-mul-of-pos-right}
 use native.Mathlib.Nat.{lt-of-mul-lt-mul-right, mul-le-mul-right}
@@ -12,36 +12,22 @@ use native.Mathlib.Omega.{arith}
 use lib.IntN.{ℤ, pos, negsuc}
 use lib.Dec.{T, ltb, leb, eqb, leb→le}
 use lib.Ieee.{Float, nan, inf, fin, Format, binary32, binary64, low, prec, emax, nearest, up, down, unlike, round}
-use lib.Ieee.{units, odd, size, span, climb, sum, add, mul, eq, ne, fits, ofBits}
+use lib.Ieee.{units, odd, size, span, climb, sum, neg, add, sub, mul, eq, ne, fits, ofBits, toBits, top}
 use lib.Ieee.Digits.{size-lt, size-reaches}
 use lib.Ieee.Exact.{HasValue, odd-sign}
-use lib.Ieee.Fits.{two, up-pos, down-pos, and-l, and-r, add-fits}
+use lib.Ieee.Fits.{two, up-pos, down-pos, and-l, and-r, neg-fits, add-fits}
 use lib.Ieee.Nearest.{nearest-ge}
 use lib.Pow.{pow-pos, pow-lt, pow-add}
 use lib.Ieee.Scale.{round-same}
 use borrow.Author.Tests.{lt-ltb, le-ltb, ltb-true, ne-eqb}
 use Rattle.float.specs.Number.{zero64}
-use Rattle.float.specs.Value.{isFinite, isZero}
+use Rattle.float.specs.Value.{isFinite, isZero, notMinusZero, Sum}
 use Rattle.float.proofs.Laws.{round-fitting}
 use Rattle.float.proofs.Products.{mul-commutes}
-
--- ---- what is no -0.0, and what a sum that began at +0.0 is
 
 -- a zero of the sign s
 abbrev pub zeroOf : Bool → Float
 zeroOf s = fin s 0 (pos 0)
-
--- anything but -0.0
-unfoldable pub notMinusZero : Float → Bool
-notMinusZero nan = true
-notMinusZero (inf s) = true
-notMinusZero (fin s zero e) = not s
-notMinusZero (fin s (suc m) e) = true
-
--- a value of the format, and not -0.0: a sum that began at +0.0 is one, whatever values were added (`sum-next`)
-pub record Sum (c : Float) : Type 0 where
-  pub held : T (fits binary64 c)
-  pub plain : notMinusZero c ≡ true
 
 -- ---- a product with a zero is a zero
 
@@ -369,6 +355,20 @@ sum-product c x y s f g h = by (isZero x) refl h
         let p = zero-times y x k f in
         ap (add binary64 c) (mul-commutes binary64 x y ∙ p .1) ∙ sum-zero c (p .0) s
 
+-- ---- differences
+
+-- what is not -0.0 stays so, whatever is subtracted
+pub sub-next : (c p : Float) → Sum c → T (fits binary64 p) → Sum (sub binary64 c p)
+unfolding sub
+sub-next c p s h = sum-next c (neg p) s (neg-fits binary64 p h)
+
+-- a zero times a finite number, subtracted, changes nothing but -0.0
+pub sub-product : (c x y : Float) → Sum c → isZero x ≡ true → isFinite y ≡ true
+    → sub binary64 c (mul binary64 x y) ≡ c
+unfolding sub neg
+sub-product c x y s h g =
+    let p = zero-times x y h g in ap (λ (z : Float). add binary64 c (neg z)) (p .1) ∙ sum-zero c (not (p .0)) s
+
 -- ---- what the tests say
 
 -- x == 0.0
@@ -399,3 +399,23 @@ is-not-finite (fin s m e) =
     signs : (t : Bool) → ne (zeroOf t) (zeroOf false) ≡ false
     signs true = refl
     signs false = refl
+
+-- the pattern of a zero
+pub zero-bits : (x : Float) → isZero x ≡ true → notMinusZero x ≡ eqb (toBits binary64 x) 0
+unfolding notMinusZero isZero toBits size span climb
+zero-bits nan h = absurd (false≢true h)
+zero-bits (inf s) h = absurd (false≢true h)
+zero-bits (fin s zero e) h = rw (zero-mul (up e), zero-div (down e)) (signs s)
+  where
+    signs : (s : Bool) → not s ≡ eqb (cond s (top binary64) 0 + 0 + 0) 0
+    signs true = refl
+    signs false = refl
+zero-bits (fin s (suc m) e) h = absurd (false≢true h)
+
+-- what is no zero
+pub nonzero-plain : (x : Float) → isZero x ≡ false → notMinusZero x ≡ true
+unfolding notMinusZero isZero
+nonzero-plain nan h = refl
+nonzero-plain (inf s) h = refl
+nonzero-plain (fin s zero e) h = absurd (true≢false h)
+nonzero-plain (fin s (suc m) e) h = refl

@@ -1,8 +1,9 @@
 -- Tests of a value, its size, the smaller of two, and a value brought into a range. Definitions only.
 use Prim.Native.Nat.{zero, suc, _-_, _*_, _^_}
-use mathlib.Core.Bool.{Bool, true, false, cond}
-use lib.Dec.{leb}
-use lib.Ieee.{Float, nan, inf, fin, Format, emax, up, down, lt, isNan}
+use mathlib.Core.Path.{_≡_}
+use mathlib.Core.Bool.{Bool, true, false, not, cond}
+use lib.Dec.{T, leb}
+use lib.Ieee.{Float, nan, inf, fin, Format, binary64, emax, up, down, lt, isNan, fits}
 
 -- neither a NaN nor an infinity
 unfoldable pub isFinite : Float → Bool
@@ -16,6 +17,18 @@ isZero nan = false
 isZero (inf s) = false
 isZero (fin s zero e) = true
 isZero (fin s (suc m) e) = false
+
+-- anything but -0.0
+unfoldable pub notMinusZero : Float → Bool
+notMinusZero nan = true
+notMinusZero (inf s) = true
+notMinusZero (fin s zero e) = not s
+notMinusZero (fin s (suc m) e) = true
+
+-- a value of the format, and not -0.0: a sum that began at +0.0 is one, whatever values were added
+pub record Sum (c : Float) : Type 0 where
+  pub held : T (fits binary64 c)
+  pub plain : notMinusZero c ≡ true
 
 -- finite, and of the size of the format's smallest normal value or more, 2 ^ -126 or 2 ^ -1022: not zero and not
 -- subnormal

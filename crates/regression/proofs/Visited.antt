@@ -14,8 +14,8 @@ use lib.Seq.{take-at, drop-cons, drop-drop, getD-drop}
 use lib.Ieee.{Float, nan, binary64, mul, add, fits}
 use lib.Ieee.Fits.{mul-fits}
 use Rattle.float.specs.Number.{zero64, sumFrom}
-use Rattle.float.specs.Value.{isFinite, isZero}
-use Rattle.float.proofs.Zeros.{Sum, notMinusZero, sum-starts, sum-next, sum-product}
+use Rattle.float.specs.Value.{isFinite, isZero, notMinusZero, Sum}
+use Rattle.float.proofs.Zeros.{sum-starts, sum-next, sum-product}
 use Rattle.status.specs.Checks.{every}
 use Rattle.status.proofs.Laws.{and-true}
 use Rattle.matrix.specs.Lists.{tabulate, zipped}

@@ -12,11 +12,11 @@ use lib.Ieee.{Float}
 use denote.Ref.{now}
 use borrow.Author.Tests.{lt-ltb, le-ltb}
 use Rattle.matrix.specs.Rows.{rowsOf}
-use Rattle.matrix.proofs.Laws.{rowsOf-take, take-rowsOf}
 use Rattle.elimination.specs.Rows.{rowOf}
 use Rattle.elimination.specs.Elimination.{leadingZeros, leading, lessMultiple, clearAbove}
 use Rattle.elimination.proofs.Elimination.{if-true, if-false}
-use Rattle.elimination.proofs.Rows.{copied-row, rows-above}
+use Rattle.elimination.proofs.Rows.{copied-row, front-rows, rows-above}
+use Rattle.elimination.proofs.Plain.{front-plain, zeros-lent}
 use Rattle.elimination.proofs.Shape.{inside}
 use borrow.Author.Needs.{needs}
 use Rattle.elimination.proofs.reduced.clear_above.Statement.{statement}
@@ -36,8 +36,7 @@ module _ (n w i j a : ℕ) (cells row : List Float) (l : n ≤ w) (here : take w
   unfolding clearAbove
   put-above part h at len lt e r =
       let rows : List (List Float) = rowsOf w n cells in
-      let front : rowsOf w i (take a cells) ≡ take i rows =
-      rowsOf-take w i a cells (omega arith) ∙ sym (take-rowsOf w n i cells (le-of-lt h)) in
+      let front : rowsOf w i (take a cells) ≡ take i rows = front-rows w n i a cells (le-of-lt h) at in
       let new : rowsOf w i part ≡ map (lessMultiple (leading n (rowOf rows i)) (rowOf rows i)) (take i rows) =
       rw (len, front, here, place) at r in
       rw at (rows-above w n i cells part (le-of-lt h) (e ∙ at))
@@ -119,10 +118,19 @@ slice-aggregate-subtract-multiples-2 c = sym (own-length (c .before .before .bef
 
 subtract-multiples-requires : tie.Need-subtract-multiples-requires
 subtract-multiples-requires c κs =
-    let r = c .before .before .before .before .before in
-    let s = begin r in (
+    let t = c .before .before in
+    let j = t .before in
+    let r = j .before .before in
+    let s = begin r in
+    let a = s .args in (
       front-length r ∙ s .pre .2 ∙ ap (λ (k : ℕ). s .args .i * k) (sym (own-length r)),
       omega (arith, own-length r, c .before .before .if1 .taken, s .pre .0 .left),
+      omega (arith, s .pre .0 .order, s .pre .1),
+      zeros-lent (a .n) (a .w) (j .first-nonzero .result) (r .row-copy .result) (s .pre .0 .left)
+          (j .first-nonzero .ensures) (t .if1 .taken),
+      rw (own-length r)
+          (front-plain (a .n) (a .w) (a .i) (j .first-nonzero .result) (a .start) (now (a .plain)) (now (a .cells))
+          (omega (arith, s .pre .1)) (omega (arith, t .if1 .taken)) (s .pre .2) (s .pre .3)),
     )
 
 same-length : tie.Need-same-length

@@ -3,28 +3,22 @@
 use mathlib.Core.Path.{_≡_, refl, sym, ap, _∙_}
 use mathlib.Core.List.{List, []}
 use Prim.Native.Nat.{ℕ, suc, _+_, _*_, _≤_, _<_, _-_}
-use native.Mathlib.Nat.{zero-mul, add-sub-cancel-left}
+use native.Mathlib.Nat.{zero-mul}
 use native.Mathlib.Omega.{arith}
 use native.Mathlib.Numerals.{add-one}
 use lib.ListN.{length, take, drop, drop-of-length-le}
-use lib.Seq.{take-take}
 use lib.Ieee.{Float}
 use denote.Ref.{now}
 use Rattle.matrix.specs.Rows.{rowsOf}
-use Rattle.matrix.proofs.Laws.{length-rowsOf, row-rowsOf}
+use Rattle.matrix.proofs.Laws.{length-rowsOf}
 use Rattle.elimination.specs.Rows.{rowOf}
 use Rattle.elimination.specs.Elimination.{rowSolved, solvedFrom, leftSolved}
 use Rattle.elimination.proofs.Elimination.{left-solved-row, test-fails, test-holds}
+use Rattle.elimination.proofs.Rows.{left-part}
 use Rattle.elimination.proofs.Shape.{inside}
 use borrow.Author.Needs.{needs}
 use Rattle.elimination.proofs.reduced.left_solved.Statement.{statement}
 use Rattle.elimination.proofs.reduced.left_solved.Tie as tie
-
--- the left cells of row i
-left-part : (n w i a : ℕ) (cells : List Float) → i < n → n ≤ w → a ≡ i * w
-    → take (a + n - a) (drop a cells) ≡ take n (rowOf (rowsOf w n cells) i)
-left-part n w i a cells h l e =
-    rw (add-sub-cancel-left, row-rowsOf w n i cells h, take-take n w (drop (i * w) cells) l, e) refl
 
 abbrev Inv-loop : tie.InvT-loop
 Inv-loop cells n w i₀ at₀ i at =

@@ -1,13 +1,16 @@
 -- `elimination::reduced::subtract_multiples` meets its contract. The loop's invariant: column j is cleared in the
 -- first i rows (`RowsMade`).
-use mathlib.Core.Path.{refl, sym, _∙_}
+use mathlib.Core.Path.{refl, sym, _∙_, subst}
+use mathlib.Core.List.{List}
 use Prim.Native.Nat.{_-_}
 use native.Mathlib.Nat.{zero-mul}
 use native.Mathlib.Omega.{arith}
 use lib.ListN.{length}
+use lib.Ieee.{Float}
 use denote.Ref.{now}
+use Rattle.float.specs.Value.{Sum}
 use Rattle.matrix.proofs.Laws.{length-rowsOf}
-use Rattle.elimination.specs.Elimination.{lessMultiple}
+use Rattle.elimination.specs.Elimination.{cell, lessMultiple}
 use Rattle.elimination.proofs.Made.{made-none, made-map}
 use Rattle.elimination.proofs.Rows.{RowsMade, Turn, turn}
 use borrow.Author.Needs.{needs}
@@ -15,10 +18,10 @@ use Rattle.elimination.proofs.reduced.subtract_multiples.Statement.{sta
 use Rattle.elimination.proofs.reduced.subtract_multiples.Tie as tie
 
 abbrev Inv-loop : tie.InvT-loop
-Inv-loop cells₀ m by j w i₀ at₀ cells i at = RowsMade w m (λ r. lessMultiple j by) cells₀ cells at i
+Inv-loop cells₀ m by j plain w i₀ at₀ cells i at = RowsMade w m (λ r. lessMultiple j by) cells₀ cells at i
 
 abbrev μ-loop : tie.MeasureT-loop
-μ-loop cells₀ m by j w i₀ at₀ cells i at = m - i
+μ-loop cells₀ m by j plain w i₀ at₀ cells i at = m - i
 
 -- where the function begins, and a turn of the loop
 abbrev start : tie.In-loop Inv-loop μ-loop → tie.Start Inv-loop μ-loop
@@ -52,8 +55,20 @@ part-subtract-multiple-start c = omega arith
 part-subtract-multiple-end : tie.Need-part-subtract-multiple-end Inv-loop μ-loop
 part-subtract-multiple-end c = omega (arith, here c .fits)
 
+element-copy-out-subtract-multiple : tie.Need-element-copy-out-subtract-multiple Inv-loop μ-loop
+element-copy-out-subtract-multiple c = omega (arith, start (c .before) .pre .2)
+
 subtract-multiple-requires : tie.Need-subtract-multiple-requires Inv-loop μ-loop
-subtract-multiple-requires c κs = let t = c .before in (omega (arith, here t .part, start t .pre .1), here t .part)
+subtract-multiple-requires c κs =
+    let t = c .before .before in
+    let s = start t in
+    let r = here t in (
+      omega (arith, r .part, s .pre .1),
+      r .part,
+      s .pre .3,
+      λ set k h.
+          subst (λ (row : List Float). Sum (cell k row)) (sym (r .row)) (s .pre .4 (t .before .loop .i) (t .loop-test .taken) set k h),
+    )
 
 add-i : tie.Need-add-i Inv-loop μ-loop
 add-i c = search needs
@@ -64,7 +79,7 @@ loop-less c = search needs
 loop-again : tie.Need-loop-again Inv-loop μ-loop
 loop-again c =
     let done = c .before .before .subtract-multiple in
-    here (c .before .before .before .before) .next (done .last .0) (done .kept .0) (done .ensures)
+    here (c .before .before .before .before .before) .next (done .last .0) (done .kept .0) (done .ensures)
 
 same-length : tie.Need-same-length Inv-loop μ-loop
 same-length c = c .before .loop .inv .3
@@ -84,6 +99,7 @@ subtract-multiples-spec =
     sub-subtract-multiple
     part-subtract-multiple-start
     part-subtract-multiple-end
+    element-copy-out-subtract-multiple
     subtract-multiple-requires
     add-i
     loop-less
