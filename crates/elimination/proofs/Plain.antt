@@ -1,4 +1,4 @@
--- Cells that are not -0.0 stay so while rows are subtracted, and where the subtracted row is zero they stay as they are.
+-- Cells that are not -0.0 stay so while rows are subtracted, and stay as they are where the subtracted row is zero.
 use mathlib.Core.Path.{_≡_, refl, sym, ap, ap₂, _∙_, subst}
 use mathlib.Core.Bool.{Bool, true, false, cond, _&&_}
 use mathlib.Core.List.{List, [], _∷_, _++_, map}
@@ -151,7 +151,8 @@ pub front-plain : (n w i j a : ℕ) (flags : List Bool) (cells : List Float) →
     → PlainRows n n flags (rowsOf w n cells) → PlainRows i j flags (rowsOf w i (take a cells))
 front-plain n w i j a flags cells h l e p r m f k o =
     let row : rowOf (rowsOf w n cells) r ≡ rowOf (rowsOf w i (take a cells)) r =
-    sym (ap (λ (rows : List (List Float)). rowOf rows r) (front-rows w n i a cells h e) ∙ getD-take i (rowsOf w n cells) r [] m) in
+    sym (getD-take i (rowsOf w n cells) r [] m)
+    ∙ ap (λ (rows : List (List Float)). rowOf rows r) (sym (front-rows w n i a cells h e)) in
     subst Sum (ap (cell k) row) (p r (omega arith) f k (omega arith))
 
 -- the zeros of a row's left cells, in as much of the row as is lent

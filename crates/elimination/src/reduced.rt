@@ -80,8 +80,8 @@ fn subtract_multiples(
     }
 }
 
-// Clears the column of row i's first nonzero left cell above row i, which starts at `start`. `plain` says of a row that
-// no left cell is -0.0.
+// Clears the column of row i's first nonzero left cell above row i, which starts at `start`. `plain` says of a row
+// that no left cell is -0.0.
 fn clear_above(
     cells: &mut [f64],
     n: usize,

@@ -114,8 +114,8 @@ fn first_changed(plain: bool, factor: f64, j: usize) -> usize
     0
 }
 
-// Subtracts from a row the multiple of `by` that clears column j, the first cell of `by` that is not zero. `plain` says
-// that no cell of the row before j is -0.0.
+// Subtracts from a row the multiple of `by` that clears column j, the first cell of `by` that is not zero. `plain`
+// says that no cell of the row before j is -0.0.
 pub(crate) fn subtract_multiple(row: &mut [f64], by: &[f64], j: usize, plain: bool)
     requires { ⌜ (j < length (now row)) × (length (now row) ≡ length (now by))
         × Zeros j (now by)

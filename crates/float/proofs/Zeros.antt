@@ -1,11 +1,11 @@
 -- Zeros in sums, in any format: a zero times a finite number is a zero of one of the signs, a rounded sum is -0.0 only
--- where both terms are, and so a sum that began at +0.0 is never -0.0, and no zero changes it. The same of differences.
--- What x == 0.0 and x * 0.0 != 0.0 test, and the patterns of the zeros.
+-- where both terms are, and so a sum that began at +0.0 is never -0.0, and no zero changes it. The same holds of
+-- differences. What x == 0.0 and x * 0.0 != 0.0 test, and the patterns of the zeros.
 use mathlib.Core.Path.{_≡_, refl, sym, ap, ap₂, _∙_, subst}
 use mathlib.Core.Bool.{Bool, true, false, not, _&&_, _||_, Bool·beq, cond, false≢true, true≢false}
 use Prim.Native.Nat.{ℕ, zero, suc, _+_, _-_, _*_, _/_, _%_, _^_, _≤_, _<_, compare}
-use native.Mathlib.Nat.{mul-comm, mul-one, one-mul, zero-mul, mul-pos, add-zero, zero-lt-suc, sub-zero, zero-div, le-trans}
-use native.Mathlib.Nat.{le-of-eq, not-le-of-lt, lt-irrefl, le-div-iff-mul-le, le-of-suc-le-suc, lt-of-not-le}
+use native.Mathlib.Nat.{mul-comm, mul-one, one-mul, zero-mul, mul-pos, add-zero, zero-lt-suc, sub-zero, le-trans}
+use native.Mathlib.Nat.{zero-div, le-of-eq, not-le-of-lt, lt-irrefl, le-div-iff-mul-le, le-of-suc-le-suc, lt-of-not-le}
 use native.Mathlib.Nat.{lt-of-lt-of-le, mul-assoc, mul-right-comm, mul-sub, mul-lt-mul-of-pos-right}
 use native.Mathlib.Nat.{lt-of-mul-lt-mul-right, mul-le-mul-right}
 use native.Mathlib.Omega.{arith}

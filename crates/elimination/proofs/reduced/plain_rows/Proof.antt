@@ -76,13 +76,13 @@ loop-again c =
     let e = row-within t in
     let within : l .at + (l .at + a .n - l .at) ≤ length cells = omega arith in
     let len : length (take (l .at + a .n - l .at) (drop (l .at) cells)) ≡ a .n =
-    part-length (l .at) (l .at + a .n - l .at) cells within ∙ add-sub-cancel-left (l .at) (a .n) in (
+    part-length (l .at) (l .at + a .n - l .at) cells within ∙ add-sub-cancel-left (l .at) (a .n) in
+    let row = left-plain (a .n) (a .w) (l .i) (l .at) cells (t .loop-test .taken) (e .2) (l .inv .1) len in (
       omega arith,
       next-start (l .at) (l .i) (a .w) (l .inv .1),
       simp length-set (l .inv .2),
       flag-set (l .i) (a .n) (l .plain) (rowsOf (a .w) (a .n) cells) (c .is-plain .result)
-          (omega (arith, l .inv .2, s .pre .order)) (l .inv .3)
-          (λ f. left-plain (a .n) (a .w) (l .i) (l .at) cells (t .loop-test .taken) (e .2) (l .inv .1) len (c .is-plain .ensures f)),
+          (omega (arith, l .inv .2, s .pre .order)) (l .inv .3) (λ f. row (c .is-plain .ensures f)),
     )
 
 returns : tie.Need-returns Inv-loop μ-loop

@@ -67,7 +67,8 @@ subtract-multiple-requires c κs =
       r .part,
       s .pre .3,
       λ set k h.
-          subst (λ (row : List Float). Sum (cell k row)) (sym (r .row)) (s .pre .4 (t .before .loop .i) (t .loop-test .taken) set k h),
+          subst (λ (row : List Float). Sum (cell k row)) (sym (r .row))
+          (s .pre .4 (t .before .loop .i) (t .loop-test .taken) set k h),
     )
 
 add-i : tie.Need-add-i Inv-loop μ-loop

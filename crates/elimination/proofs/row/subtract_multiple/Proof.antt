@@ -37,7 +37,9 @@ within : (c : tie.After-first-changed)
     (c .first-changed .result ≤ s .args .j) × (s .args .j < length (now (s .args .row)))
 within c =
     let s = c .before .before .before .before .before in
-    (omega (arith, c .first-changed .ensures, changed-within (s .args .j) (now (s .args .by)) (now (s .args .row)) (s .args .plain)), s .pre .0)
+    let a = s .args in
+    let l = changed-within (a .j) (now (a .by)) (now (a .row)) (a .plain) in
+    (omega (arith, c .first-changed .ensures), s .pre .0)
 
 mul-factor : tie.Need-mul-factor
 mul-factor c = search needs
