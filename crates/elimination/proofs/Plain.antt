@@ -1,6 +1,6 @@
 -- Cells that are not -0.0 stay so while rows are subtracted, and stay as they are where the subtracted row is zero.
 use mathlib.Core.Path.{_≡_, refl, sym, ap, ap₂, _∙_, subst}
-use mathlib.Core.Bool.{Bool, true, false, cond, _&&_}
+use mathlib.Core.Bool.{Bool, true, false, _&&_, false≢true}
 use mathlib.Core.List.{List, [], _∷_, _++_, map}
 use Prim.Native.Nat.{ℕ, zero, suc, _+_, _-_, _*_, _≤_, _<_}
 use native.Mathlib.Nat.{not-suc-le-zero, le-of-suc-le-suc}
@@ -55,32 +55,22 @@ zeros-skipped factor f (suc j) (x ∷ row) (y ∷ by) z p =
     (sym (sub-product x y factor (p 0 (omega arith)) (z 0 (omega arith)) f))
     (zeros-skipped factor f j row by (λ k h. z (suc k) (omega arith)) (λ k h. p (suc k) (omega arith)))
 
--- a row less a multiple of another, made from the first cell on that can change
-module _ (j : ℕ) (by row : List Float) (plain : Bool) where
-  abbrev factor : Float
-  factor = div binary64 (cell j row) (cell j by)
+-- so a row less such a multiple is made from cell j on
+pub less-from : (j : ℕ) (by row : List Float) (plain : Bool)
+    → let factor = div binary64 (cell j row) (cell j by) in
+    plain && isFinite factor ≡ true → Zeros j by → (plain ≡ true → Plain j row)
+    → take j row ++ zipped (lessScaled factor) (drop j row) (drop j by) ≡ lessMultiple j by row
+unfolding lessMultiple
+less-from j by row plain e z p = go plain (isFinite factor) refl e p
+  where
+    factor : Float
+    factor = div binary64 (cell j row) (cell j by)
 
-  abbrev changed : ℕ
-  changed = cond (plain && isFinite factor) j 0
-
-  pub changed-within : changed ≤ j
-  changed-within = go (plain && isFinite factor)
-    where
-      go : (b : Bool) → cond b j 0 ≤ j
-      go true = omega arith
-      go false = omega arith
-
-  pub less-from : Zeros j by → (plain ≡ true → Plain j row)
-      → take changed row ++ zipped (lessScaled factor) (drop changed row) (drop changed by) ≡ lessMultiple j by row
-  unfolding lessMultiple
-  less-from z p = go plain (isFinite factor) refl p
-    where
-      go : (b f : Bool) → isFinite factor ≡ f → (b ≡ true → Plain j row)
-          → let c = cond (b && f) j 0 in
-          take c row ++ zipped (lessScaled factor) (drop c row) (drop c by) ≡ zipped (lessScaled factor) row by
-      go true true e q = zeros-skipped factor e j row by z (q refl)
-      go true false e q = refl
-      go false f e q = refl
+    go : (b f : Bool) → isFinite factor ≡ f → b && f ≡ true → (b ≡ true → Plain j row)
+        → take j row ++ zipped (lessScaled factor) (drop j row) (drop j by) ≡ zipped (lessScaled factor) row by
+    go true true h t q = zeros-skipped factor h j row by z (q refl)
+    go true false h t q = absurd (false≢true t)
+    go false f h t q = absurd (false≢true t)
 
 -- ---- what is not -0.0 stays so, in every row
 

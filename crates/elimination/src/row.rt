@@ -1,7 +1,7 @@
 // Operations on one row.
 ghost use mathlib.Core.Path.{_≡_};
 ghost use mathlib.Core.List.{map};
-ghost use mathlib.Core.Bool.{true, not, _&&_, cond};
+ghost use mathlib.Core.Bool.{true, not, _&&_};
 ghost use Prim.Native.Nat.{_≤_, _<_};
 ghost use lib.ListN.{length};
 ghost use Rattle.float.specs.Value.{isFinite, notMinusZero};
@@ -101,21 +101,20 @@ pub(crate) fn is_plain(row: &[f64]) -> bool
     true
 }
 
-// The first cell that `factor` times a row can change in another, where the row's first j cells are zeros. A finite
-// factor gives zeros there, which change only -0.0: where the other row has none, the cells before j stay.
-fn first_changed(plain: bool, factor: f64, j: usize) -> usize
-    ensures { λ r. ⌜ r ≡ cond (plain && isFinite factor) j 0 ⌝ }
+// Whether `factor` times zeros, subtracted from cells, leaves them as they are: a finite factor gives zeros, which
+// change only -0.0. `plain` says that no cell is that.
+fn keeps_cells(plain: bool, factor: f64) -> bool
+    ensures { λ r. ⌜ r ≡ (plain && isFinite factor) ⌝ }
 {
     if plain {
-        if float::is_finite64(factor) {
-            return j;
-        }
+        return float::is_finite64(factor);
     }
-    0
+    false
 }
 
 // Subtracts from a row the multiple of `by` that clears column j, the first cell of `by` that is not zero. `plain`
-// says that no cell of the row before j is -0.0.
+// says that no cell of the row before j is -0.0. The two ways are apart so that where the cells lie doesn't wait for
+// the factor.
 pub(crate) fn subtract_multiple(row: &mut [f64], by: &[f64], j: usize, plain: bool)
     requires { ⌜ (j < length (now row)) × (length (now row) ≡ length (now by))
         × Zeros j (now by)
@@ -123,6 +122,9 @@ pub(crate) fn subtract_multiple(row: &mut [f64], by: &[f64], j: usize, plain: bo
     ensures { λ _. ⌜ now (row .exit) ≡ lessMultiple j (now (by .entry)) (now (row .entry)) ⌝ }
 {
     let factor = row[j] / by[j];
-    let start = first_changed(plain, factor, j);
-    subtract_scaled(&mut row[start..], &by[start..], factor);
+    if keeps_cells(plain, factor) {
+        subtract_scaled(&mut row[j..], &by[j..], factor);
+    } else {
+        subtract_scaled(row, by, factor);
+    }
 }
