@@ -1,8 +1,8 @@
 -- `elimination::reduced::left_solved` meets its contract. The loop's invariant: what is left of the rows gives what
 -- all of them give; row i starts at `at`.
 use mathlib.Core.Path.{_≡_, refl, sym, ap, _∙_}
-use mathlib.Core.List.{List, []}
-use Prim.Native.Nat.{ℕ, suc, _+_, _*_, _≤_, _<_, _-_}
+use mathlib.Core.List.{List}
+use Prim.Native.Nat.{suc, _*_, _≤_, _<_, _-_}
 use native.Mathlib.Nat.{zero-mul}
 use native.Mathlib.Omega.{arith}
 use native.Mathlib.Numerals.{add-one}

@@ -1,7 +1,7 @@
 -- `elimination::reduced::plain_rows` meets its contract. The loop's invariant: the flags of the first i rows say what
 -- they are to say; row i starts at `at`.
 use mathlib.Core.Path.{_≡_, refl, sym, _∙_}
-use Prim.Native.Nat.{ℕ, _+_, _*_, _≤_, _<_, _-_}
+use Prim.Native.Nat.{_+_, _*_, _≤_, _-_}
 use native.Mathlib.Nat.{zero-mul, add-sub-cancel-left}
 use native.Mathlib.Omega.{arith}
 use lib.ListN.{length, take, drop, length-set}

@@ -1,11 +1,8 @@
 -- `elimination::row::is_minus_zero` meets its contract: of the two zeros, the pattern of +0.0 is 0.
-use mathlib.Core.Path.{_≡_, refl, sym, ap, _∙_}
-use mathlib.Core.Bool.{Bool, true, false, not}
+use mathlib.Core.Path.{sym, ap, _∙_}
+use mathlib.Core.Bool.{not}
 use Prim.Native.Nat.{ℕ}
 use lib.Dec.{eqb}
-use lib.Ieee.{Float, binary64, ofBits, eq, toBits}
-use Rattle.float.specs.Number.{zero64}
-use Rattle.float.specs.Value.{notMinusZero}
 use Rattle.float.proofs.Zeros.{is-zero, zero-bits, nonzero-plain}
 use borrow.Author.Needs.{needs}
 use Rattle.elimination.proofs.row.is_minus_zero.Statement.{statement}

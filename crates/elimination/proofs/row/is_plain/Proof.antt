@@ -1,13 +1,11 @@
 -- `elimination::row::is_plain` meets its contract. The loop's invariant: no cell that was passed is -0.0.
-use mathlib.Core.Path.{_≡_, refl, sym, ap, _∙_}
-use mathlib.Core.Bool.{Bool, true, false, false≢true}
-use Prim.Native.Nat.{ℕ, _≤_, _<_, _-_}
+use mathlib.Core.Path.{sym, _∙_}
+use mathlib.Core.Bool.{false≢true}
+use Prim.Native.Nat.{_≤_, _-_}
 use native.Mathlib.Omega.{arith}
 use lib.ListN.{length}
-use denote.Ref.{now}
 use borrow.Author.Count.{below-more}
 use borrow.Author.Tests.{not-false}
-use Rattle.float.specs.Value.{notMinusZero}
 use Rattle.elimination.specs.Plain.{Plain}
 use borrow.Author.Needs.{needs}
 use Rattle.elimination.proofs.row.is_plain.Statement.{statement}
