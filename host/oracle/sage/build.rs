@@ -3,7 +3,7 @@
 //! `$SAGE_SRC` is the folder that holds crates/sage/src; a relative path starts at the repository's
 //! root, and the default is ../shared/docs/src beside it. A probe of ours is appended to the copies of
 //! the regression, the alignment and both models, to read what they keep to themselves; nothing else
-//! is added and nothing is changed.
+//! is added and nothing is changed. `host/bench/all_cores` has this build script too.
 
 use std::path::{Path, PathBuf};
 use std::{env, fs};
@@ -37,8 +37,6 @@ fn main() {
     fs::write(out.join("modules.rs"), modules(&source, &copies))
         .expect("the build's folder can be written");
     println!("cargo:rerun-if-env-changed=SAGE_SRC");
-    println!("cargo:rerun-if-changed=build.rs");
-    println!("cargo:rerun-if-changed=probes");
 }
 
 /// The folder crates/sage/src under `$SAGE_SRC`.

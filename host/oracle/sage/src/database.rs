@@ -3,7 +3,7 @@
 use crate::peptide::Peptide;
 
 /// A peptide's number.
-#[derive(Copy, Clone, PartialEq, Eq, PartialOrd, Ord, Debug)]
+#[derive(Hash, Copy, Clone, PartialEq, Eq, PartialOrd, Ord, Debug)]
 pub struct PeptideIx(pub u32);
 
 /// The peptide table.

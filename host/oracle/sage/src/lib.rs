@@ -2,6 +2,7 @@
 //!
 //! The build script lays the files out and checks them. The name `std` is ../shims/std here, so that
 //! sage's `HashMap` is ordered; `crate::database`, `crate::peptide` and `crate::scoring` are ours.
+//! `host/bench/all_cores` compiles this file too, with the true `std`, rayon and dashmap.
 
 pub mod database;
 pub mod peptide;
