@@ -9,8 +9,8 @@ use lib.ListN.{length, getD, drop}
 use lib.Seq.{drop-cons}
 use lib.Ieee.{Float, nan, inf, fin, binary64, add, mul}
 use Rattle.float.specs.Number.{sumFrom}
-use Rattle.float.specs.Value.{isFinite, isZero}
-use Rattle.float.proofs.Zeros.{Sum, sum-product}
+use Rattle.float.specs.Value.{isFinite, isZero, Sum}
+use Rattle.float.proofs.Zeros.{sum-product}
 use Rattle.status.specs.Checks.{every}
 use Rattle.status.proofs.Laws.{every-at}
 use Rattle.matrix.specs.Nonzero.{nonzeroCells}

@@ -9,7 +9,8 @@ use lib.Ieee.{Float, nan, binary64, add, mul, ofBits}
 use lib.Ieee.Fits.{mul-fits}
 use denote.Ref.{now}
 use Rattle.float.specs.Number.{sumFrom}
-use Rattle.float.proofs.Zeros.{Sum, sum-starts, sum-next}
+use Rattle.float.specs.Value.{Sum}
+use Rattle.float.proofs.Zeros.{sum-starts, sum-next}
 use Rattle.regression.specs.Regression.{dot}
 use Rattle.regression.specs.Sparse.{ListedCells}
 use Rattle.regression.proofs.Visited.{Next, none-left}
