@@ -5,37 +5,6 @@ ghost use Rattle.mass.specs.Mass.{columnOf, isLetter, residueAt};
 // The residues that have a column of their own, in the order of their columns.
 pub const VALID_AA: [u8; 22] = *b"ACDEFGHIKLMNPQRSTVWYUO";
 
-// The column of each letter from A to Z: its place in VALID_AA; B, J, X and Z have A's. Bytes, since compiled
-// code lays the table out anew for each lookup.
-const COLUMNS: [u8; 26] = [
-    0, // A
-    0, // B
-    1, // C
-    2, // D
-    3, // E
-    4, // F
-    5, // G
-    6, // H
-    7, // I
-    0, // J
-    8, // K
-    9, // L
-    10, // M
-    11, // N
-    21, // O
-    12, // P
-    13, // Q
-    14, // R
-    15, // S
-    16, // T
-    20, // U
-    17, // V
-    18, // W
-    0, // X
-    19, // Y
-    0, // Z
-];
-
 // What stands at a column.
 pub enum Residue {
     Letter(u8),
@@ -49,25 +18,35 @@ pub fn is_letter(byte: u8) -> bool
     b'A' <= byte && byte <= b'Z'
 }
 
-// A byte as an index.
-fn wide(x: u8) -> usize
-    ensures { λ r. ⌜ r ≡ x ⌝ }
-{
-    x as usize
-}
-
-// The column of a residue's letter: below 22 for every byte, and 0 for one that is not in VALID_AA.
+// The column of a residue's letter, its place in VALID_AA: below 22 for every byte, and 0 for one that is not in it.
+// A `match`, which compiled code looks up in a table that it never lays out.
 pub fn column(letter: u8) -> usize
     ensures { λ r. ⌜ r ≡ columnOf letter ⌝ }
 {
-    if letter < b'A' {
-        return 0;
+    match letter {
+        b'C' => 1,
+        b'D' => 2,
+        b'E' => 3,
+        b'F' => 4,
+        b'G' => 5,
+        b'H' => 6,
+        b'I' => 7,
+        b'K' => 8,
+        b'L' => 9,
+        b'M' => 10,
+        b'N' => 11,
+        b'P' => 12,
+        b'Q' => 13,
+        b'R' => 14,
+        b'S' => 15,
+        b'T' => 16,
+        b'V' => 17,
+        b'W' => 18,
+        b'Y' => 19,
+        b'U' => 20,
+        b'O' => 21,
+        _ => 0,
     }
-    if b'Z' < letter {
-        return 0;
-    }
-    let at = (letter - b'A') as usize;
-    wide(COLUMNS[at])
 }
 
 // The residue that a column stands for.
