@@ -4,3 +4,7 @@ pub mod Positions
 pub mod Rows
 pub mod Classes
 pub mod Totals
+pub mod Numbers
+pub mod Appending
+pub mod Pairs
+pub mod Seen

@@ -2,3 +2,4 @@
 pub mod Count
 pub mod Classes
 pub mod Design
+pub mod Listing

@@ -6,6 +6,7 @@ ghost use Prim.Native.Nat.{_≤_, _<_, _^_};
 ghost use lib.ListN.{length, drop};
 ghost use Rattle.embedding.specs.Design.{orderOf, design};
 
+mod listing;
 mod mobility_model;
 mod residues;
 mod retention_model;
