@@ -1,7 +1,7 @@
 -- Laws of listing the cells of a row that are not zero: one cell, two blocks end to end, a whole row.
 use mathlib.Core.Path.{_≡_, refl, sym, ap, _∙_, subst}
-use mathlib.Core.Bool.{true, false}
-use mathlib.Core.List.{List, [], _∷_, _++_, append-assoc, append-nil}
+use mathlib.Core.Bool.{Bool, true, false}
+use mathlib.Core.List.{List, [], _∷_, _++_, map, append-assoc, append-nil}
 use Prim.Native.Nat.{ℕ, _+_, _≤_, _<_}
 use native.Mathlib.Numerals.{add-one}
 use native.Mathlib.Omega.{arith}
@@ -11,7 +11,10 @@ use lib.Seq.{take-suc, take-set-le, take-suc-set, length-take-le}
 use Rattle.float.specs.Value.{isZero}
 use Rattle.matrix.specs.Nonzero.{nonzeros, nonzeroCells, Listed}
 use Rattle.matrix.proofs.Nonzero.{nonzeros-append, cells-append}
+use Rattle.float.specs.Number.{number}
+use Rattle.embedding.specs.Design.{everywhere, chosen, columnCounts, counts, block}
 use Rattle.embedding.specs.Listing.{Appended}
+use Rattle.embedding.proofs.Positions.{chosen-everywhere}
 
 -- ---- one cell, which is stored behind the first n whether it counts or not
 
@@ -73,6 +76,19 @@ pub listed-as : {at n r : ℕ} {xs ys : List Float} {p₀ p₁ : List ℕ} {v₀
 listed-as {at} {n} {r} {xs} {ys} {p₀} {p₁} {v₀} {v₁} e a =
     subst (λ (t : List Float). Appended at t n r p₀ p₁ v₀ v₁) e a
 
+-- the counts of a part that holds the letters at the positions that pass
+pub part-listed : {at n r : ℕ} {p₀ p₁ : List ℕ} {v₀ v₁ : List Float} {held : List ℕ} (sel : ℕ → ℕ → Bool) (letters : List ℕ)
+    → held ≡ chosen sel letters → Appended at (map number (columnCounts held)) n r p₀ p₁ v₀ v₁
+    → Appended at (block sel letters) n r p₀ p₁ v₀ v₁
+unfolding block counts
+part-listed sel letters e a = listed-as (ap (λ (l : List ℕ). map number (columnCounts l)) e) a
+
+-- those of all letters
+pub all-counted : {cells : List Float} (letters : List ℕ) → cells ≡ map number (columnCounts letters)
+    → cells ≡ block everywhere letters
+unfolding block counts
+all-counted letters e = e ∙ ap (λ (l : List ℕ). map number (columnCounts l)) (sym (chosen-everywhere letters))
+
 -- one cell more of a row
 pub next-listed : {k n r : ℕ} {p₀ p₁ p₂ : List ℕ} {v₀ v₁ v₂ : List Float} (cells : List Float) → k < length cells
     → Appended 0 (take k cells) 0 n p₀ p₁ v₀ v₁ → Appended k (getD cells k nan ∷ []) n r p₁ p₂ v₁ v₂
@@ -80,6 +96,12 @@ pub next-listed : {k n r : ℕ} {p₀ p₁ p₂ : List ℕ} {v₀ v₁ v₂ : Li
 next-listed {k} cells h a b =
     listed-as (sym (take-suc cells k nan h) ∙ ap (λ (m : ℕ). take m cells) (sym (add-one k)))
     (both-listed a (omega (arith, length-take-le k cells (omega arith))) b)
+
+-- ---- how many cells a block has
+
+pub length-counted : (letters : List ℕ) → length (map number (columnCounts letters)) ≡ 22
+unfolding columnCounts
+length-counted letters = refl
 
 -- ---- a whole row
 

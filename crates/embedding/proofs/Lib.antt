@@ -8,3 +8,4 @@ pub mod Numbers
 pub mod Appending
 pub mod Pairs
 pub mod Seen
+pub mod Shares

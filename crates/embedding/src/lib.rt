@@ -3,7 +3,8 @@
 ghost use mathlib.Core.Path.{_≡_};
 ghost use mathlib.Core.List.{_++_};
 ghost use Prim.Native.Nat.{_≤_, _<_, _^_};
-ghost use lib.ListN.{length, drop};
+ghost use lib.ListN.{length, take, drop};
+ghost use Rattle.matrix.specs.Nonzero.{Listed};
 ghost use Rattle.embedding.specs.Design.{orderOf, design};
 
 mod listing;
@@ -44,5 +45,29 @@ pub fn embed(model: Model, letters: &[u8], log: f64, mass: f32, charge: u8, row:
     match model {
         Model::Retention => retention_model::embed(letters, log, row),
         Model::Mobility => mobility_model::embed(letters, mass, charge, row),
+    }
+}
+
+// Lists the cells of a peptide's design row that are not zero, in column order: their columns in `places`, and what they
+// are in `values`. Answers how many they are; what stands behind them in the two is of no meaning.
+// For `model_fit`, as `embed`, where a sum over the listed cells stands for one over the row.
+pub fn list(
+    model: Model,
+    letters: &[u8],
+    log: f64,
+    mass: f32,
+    charge: u8,
+    places: &mut [usize],
+    values: &mut [f64],
+) -> usize
+    requires { ⌜ length (now letters) < 2 ^ 32 ⌝ }
+    requires { ⌜ (orderOf model ≤ length (now places)) × (orderOf model ≤ length (now values)) ⌝ }
+    ensures { λ r. ⌜ r ≤ orderOf model ⌝ }
+    ensures { λ r. ⌜ Listed 0 (design model (now (letters .entry)) log mass charge)
+        (take r (now (places .exit))) (take r (now (values .exit))) ⌝ }
+{
+    match model {
+        Model::Retention => retention_model::list(letters, log, places, values),
+        Model::Mobility => mobility_model::list(letters, mass, charge, places, values),
     }
 }

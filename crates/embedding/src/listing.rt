@@ -28,6 +28,25 @@ pub(crate) fn list_cell(
     n
 }
 
+// Lists three cells, the first of them at place `at`, but for those that are zero. The first n are listed already.
+pub(crate) fn list_three(
+    x: f64,
+    y: f64,
+    z: f64,
+    at: usize,
+    places: &mut [usize],
+    values: &mut [f64],
+    n: usize,
+) -> usize
+    requires { ⌜ (n + 3 ≤ length (now places)) × (n + 3 ≤ length (now values)) × (at ≤ 100) ⌝ }
+    ensures { λ r. ⌜ Appended at (x ∷ y ∷ z ∷ []) n r
+        (now (places .entry)) (now (places .exit)) (now (values .entry)) (now (values .exit)) ⌝ }
+{
+    let a = list_cell(x, at, places, values, n);
+    let b = list_cell(y, at + 1, places, values, a);
+    list_cell(z, at + 2, places, values, b)
+}
+
 // Lists a whole row.
 pub(crate) fn list_cells(cells: &[f64], places: &mut [usize], values: &mut [f64]) -> usize
     requires { ⌜ (length (now cells) ≤ length (now places)) × (length (now cells) ≤ length (now values)) ⌝ }

@@ -5,7 +5,12 @@ ghost use Prim.Native.Nat.{_≤_, _<_, _^_};
 ghost use lib.ListN.{length, drop};
 ghost use Rattle.float.specs.Number.{number};
 ghost use Rattle.embedding.specs.Design.{chosen, cTerminal, retentionRow};
+ghost use Rattle.embedding.specs.Listing.{Appended};
 ghost use Rattle.embedding.specs.declared.Model.{Model};
+use crate::listing::count;
+use crate::listing::list_counts;
+use crate::listing::list_three;
+use crate::listing::list_two;
 use crate::residues::embed_part;
 use crate::residues::n_terminal;
 use crate::residues::two_before;
@@ -45,4 +50,20 @@ pub(crate) fn embed(letters: &[u8], log: f64, row: &mut [f64])
     embed_part(n_terminal(letters), &mut row[22..44]);
     embed_part(c_terminal(letters), &mut row[44..66]);
     put_scalars(letters.len() as u32, log, &mut row[66..69]);
+}
+
+// Lists a peptide's row.
+pub(crate) fn list(letters: &[u8], log: f64, places: &mut [usize], values: &mut [f64]) -> usize
+    requires { ⌜ length (now letters) < 2 ^ 32 ⌝ }
+    requires { ⌜ (69 ≤ length (now places)) × (69 ≤ length (now values)) ⌝ }
+    ensures { λ r. ⌜ Appended 0 (retentionRow (now (letters .entry)) log) 0 r
+        (now (places .entry)) (now (places .exit)) (now (values .entry)) (now (values .exit)) ⌝ }
+{
+    let mut counts = [0.0f64; 22];
+    let seen = count(letters, &mut counts);
+    let a = list_counts(seen, &counts, places, values);
+    let b = list_two(n_terminal(letters), 22, places, values, a);
+    let c = list_two(c_terminal(letters), 44, places, values, b);
+    let length = float::u32_to_f64(letters.len() as u32);
+    list_three(length, log, 1.0, 66, places, values, c)
 }
