@@ -18,8 +18,8 @@ use lib.Ieee.Fits.{up-pos, down-pos}
 use lib.Ieee.Scale.{round-same}
 use borrow.Author.Tests.{ne-eqb}
 use Rattle.float.specs.Number.{number}
-use Rattle.float.specs.Value.{isZero}
-use Rattle.float.proofs.Zeros.{notMinusZero, round-zero, round-something}
+use Rattle.float.specs.Value.{isZero, notMinusZero}
+use Rattle.float.proofs.Zeros.{round-zero, round-something}
 use Rattle.matrix.specs.Nonzero.{nonzeros, nonzeroCells}
 use Rattle.embedding.specs.Design.{share}
 
