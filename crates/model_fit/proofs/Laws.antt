@@ -1,12 +1,17 @@
--- Laws of lists that are selected, and of a row whose first cells were written: for any elements.
-use mathlib.Core.Path.{_≡_, refl, ap, _∙_}
+-- Laws of lists that are selected, of a row whose first cells were written, for any elements, and of a listed row with
+-- one cell more.
+use mathlib.Core.Path.{_≡_, refl, sym, ap, _∙_}
 use mathlib.Core.Bool.{Bool, true, false, cond}
-use mathlib.Core.List.{List, [], _∷_, _++_}
+use mathlib.Core.List.{List, [], _∷_, _++_, append-nil}
 use Prim.Native.Nat.{ℕ, zero, suc, _+_, _≤_, _<_}
 use native.Mathlib.Nat.{le-of-suc-le-suc, not-suc-le-zero}
 use native.Mathlib.Omega.{arith}
 use lib.ListN.{length, getD, set, take, drop, length-append, length-drop}
 use lib.Seq.{take-append-add, set-at, take-at}
+use lib.Ieee.{Float}
+use Rattle.float.specs.Value.{isZero}
+use Rattle.matrix.specs.Nonzero.{nonzeros, nonzeroCells, Listed as Nonzeros}
+use Rattle.matrix.proofs.Nonzero.{nonzeros-append, cells-append}
 use Rattle.feature.specs.Feature.{kept}
 
 module _ {A : Type 0} where
@@ -44,3 +49,27 @@ module _ {A : Type 0} where
         cell (r ∷ rest) l =
             let n : length new ≡ k = front-length (omega arith) in
             rw (set-at new r rest y k n, ← n) (take-append-add new (y ∷ rest) 1)
+
+-- ---- a row whose cells that are not zero are listed, with one cell more
+
+module _ (row : List Float) (places : List ℕ) (values : List Float) (y : Float) (l : Nonzeros 0 row places values) where
+  pub nothing-more : isZero y ≡ true → Nonzeros 0 (row ++ y ∷ []) places values
+  unfolding nonzeros nonzeroCells
+  nothing-more z = record {
+    places-are =
+        l .places-are
+        ∙ sym (nonzeros-append 0 row (y ∷ []) ∙ rw z (append-nil (nonzeros 0 row)));
+    values-are = l .values-are ∙ sym (cells-append row (y ∷ []) ∙ rw z (append-nil (nonzeroCells row)));
+  }
+
+  pub one-listed : isZero y ≡ false → Nonzeros 0 (row ++ y ∷ []) (places ++ length row ∷ []) (values ++ y ∷ [])
+  unfolding nonzeros nonzeroCells
+  one-listed z = record {
+    places-are =
+        ap (λ (t : List ℕ). t ++ length row ∷ []) (l .places-are)
+        ∙ sym
+        (nonzeros-append 0 row (y ∷ [])
+        ∙ rw z (ap (λ (k : ℕ). nonzeros 0 row ++ k ∷ []) {x = 0 + length row} {y = length row} (omega arith)));
+    values-are =
+        ap (λ (t : List Float). t ++ y ∷ []) (l .values-are) ∙ sym (cells-append row (y ∷ []) ∙ rw z);
+  }

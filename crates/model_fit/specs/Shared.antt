@@ -1,10 +1,10 @@
 -- What the functions of the fit are passed and leave. Definitions only.
 use mathlib.Core.Path.{_≡_}
 use mathlib.Core.Bool.{true}
-use mathlib.Core.List.{List, _++_}
+use mathlib.Core.List.{List}
 use Prim.Native.Nat.{ℕ, _≤_, _<_}
 use lib.Ieee.{Float}
-use lib.ListN.{length, drop}
+use lib.ListN.{length}
 use Rattle.params.specs.Slice.{Change}
 use Rattle.matrix.specs.Lists.{overwritten}
 use Rattle.status.specs.Checks.{allBelow}
@@ -12,7 +12,7 @@ use Rattle.status.specs.Limits.{maxRows}
 use Rattle.peptide.specs.Table.{Table, HasPeptide, offsetsRight}
 use Rattle.embedding.specs.Design.{orderOf}
 use Rattle.embedding.specs.declared.Model.{Model}
-use Rattle.regression.specs.Regression.{Fit, normal, sumsOf, dot}
+use Rattle.regression.specs.Regression.{Fit, normal, sumsOf}
 use Rattle.regression.specs.Workspace.{cleared, holding, FitSlices}
 use Rattle.regression.specs.declared.Sums.{Sums}
 use Rattle.regression.specs.declared.FitOutcome.{FitOutcome}
@@ -37,11 +37,6 @@ pub record Checked (i : Input) : Type 0 where
   pub observed-long : length (i .observed) ≡ length (i .peptides)
   pub rows-max : length (i .peptides) ≤ maxRows
   pub numbered : Numbered (i .table) (i .peptides)
-
--- a prediction from a design row of D columns, which stands in the first cells of the lent row
-pub record PeptidePredicted (D : ℕ) (design beta row₀ row₁ : List Float) (r : Float) : Type 0 where
-  pub prediction : r ≡ dot design beta
-  pub row : row₁ ≡ design ++ drop D row₀
 
 -- the normal equations and the sums of the training rows
 pub record Accumulated (model : Model) (i : Input) (workspace : List Float) (r : Sums) : Type 0 where

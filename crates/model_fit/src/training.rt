@@ -8,14 +8,14 @@ ghost use lib.ListN.{length, getD, take};
 ghost use Rattle.feature.specs.Feature.{trains};
 ghost use Rattle.status.specs.Limits.{maxLetters};
 ghost use Rattle.embedding.specs.Design.{orderOf, design};
-ghost use Rattle.regression.specs.Regression.{extended, normal, sse};
-ghost use Rattle.regression.specs.Sparse.{RowStarts, addVisited};
+ghost use Rattle.matrix.specs.Nonzero.{Listed as Nonzeros};
+ghost use Rattle.regression.specs.Regression.{extended, normal, dot, sse};
+ghost use Rattle.regression.specs.Sparse.{RowStarts, addVisited, allFinite};
 ghost use Rattle.regression.specs.Workspace.{Workspace, stored, withStored, holding, fitSlices};
 ghost use Rattle.model_fit.specs.Input.{inputAt, modelInput};
 ghost use Rattle.model_fit.specs.Samples.{sampleFrom, trainingSamples, fitOfInput};
 ghost use Rattle.model_fit.specs.Shared.{
   Checked,
-  PeptidePredicted,
   Accumulated,
   FittedBy,
 };
@@ -58,23 +58,50 @@ fn put_sample(
     row[d] = y;
 }
 
-// Adds a sample to the normal equations in `workspace`: the design row of a peptide's letters, log and mass and of a
-// charge, and its target. `row` is room for it, `places` for the places of its cells that are not zero. `starts` has
-// the starts of the stored rows.
-fn add_sample(
+// Lists a sample's cells that are not zero, the design row's and then the target's: their places in `places`, and what
+// they are in `values`. Answers how many they are.
+fn list_sample(
     model: Model,
     letters: &[u8],
     log: f64,
     mass: f32,
     charge: u8,
     y: f64,
-    row: &mut [f64],
+    places: &mut [usize],
+    values: &mut [f64],
+) -> usize
+    requires { ⌜ length (now letters) ≤ maxLetters ⌝ }
+    requires { ⌜ (orderOf model < length (now places)) × (orderOf model < length (now values)) ⌝ }
+    ensures { λ r. ⌜ r ≤ orderOf model + 1 ⌝ }
+    ensures { λ r. ⌜ Nonzeros 0
+        (extended (sampleFrom (design model (now (letters .entry)) log mass charge) y))
+        (take r (now (places .exit)))
+        (take r (now (values .exit))) ⌝ }
+{
+    let d = embedding::order(model);
+    let n = embedding::list(model, letters, log, mass, charge, places, values);
+    places[n] = d;
+    values[n] = y;
+    if y == 0.0 {
+        return n;
+    }
+    n + 1
+}
+
+// Adds a sample to the normal equations in `workspace`, with all cells of its design row written out. `places` is room
+// for a number a cell, and `starts` has the starts of the stored rows.
+fn add_whole(
+    model: Model,
+    letters: &[u8],
+    log: f64,
+    mass: f32,
+    charge: u8,
+    y: f64,
     places: &mut [usize],
     starts: &[usize],
     workspace: &mut [f64],
 )
     requires { ⌜ length (now letters) ≤ maxLetters ⌝ }
-    requires { ⌜ orderOf model < length (now row) ⌝ }
     requires { ⌜ (orderOf model < length (now places)) × RowStarts (orderOf model) (now starts) ⌝ }
     requires { ⌜ Workspace (orderOf model) (now workspace) ⌝ }
     ensures { λ _. ⌜ (let sample = sampleFrom (design model (now (letters .entry)) log mass charge) y in
@@ -82,10 +109,54 @@ fn add_sample(
         (addVisited (stored (orderOf model) (now (workspace .entry))) (extended sample))
         (now (workspace .entry))) ⌝ }
 {
-    put_sample(model, letters, log, mass, charge, y, row);
+    let mut row = [0.0f64; status::MAX_ORDER + 1];
+    put_sample(model, letters, log, mass, charge, y, &mut row);
     let d = embedding::order(model);
     let w = d + 1;
     regression::add_row_sparse(workspace, d, &row[..w], places, starts);
+}
+
+// Adds a sample to the normal equations in `workspace`: the design row of a peptide's letters, log and mass and of a
+// charge, and its target. `places` and `values` are room for its cells that are not zero. `starts` has the starts of
+// the stored rows.
+fn add_sample(
+    model: Model,
+    letters: &[u8],
+    log: f64,
+    mass: f32,
+    charge: u8,
+    y: f64,
+    places: &mut [usize],
+    values: &mut [f64],
+    starts: &[usize],
+    workspace: &mut [f64],
+)
+    requires { ⌜ length (now letters) ≤ maxLetters ⌝ }
+    requires { ⌜ (orderOf model < length (now places)) × (orderOf model < length (now values)) ⌝ }
+    requires { ⌜ RowStarts (orderOf model) (now starts) ⌝ }
+    requires { ⌜ Workspace (orderOf model) (now workspace) ⌝ }
+    ensures { λ _. ⌜ (let sample = sampleFrom (design model (now (letters .entry)) log mass charge) y in
+        now (workspace .exit) ≡ withStored (orderOf model)
+        (addVisited (stored (orderOf model) (now (workspace .entry))) (extended sample))
+        (now (workspace .entry))) ⌝ }
+{
+    let n = list_sample(model, letters, log, mass, charge, y, places, values);
+    if !regression::all_finite(&values[..n]) {
+        add_whole(
+            model,
+            letters,
+            log,
+            mass,
+            charge,
+            y,
+            places,
+            starts,
+            workspace,
+        );
+        return;
+    }
+    let d = embedding::order(model);
+    regression::add_row_listed(workspace, d, y, &places[..n], &values[..n], starts);
 }
 
 // Sums the normal equations of the training rows in `workspace`, which is cleared.
@@ -109,8 +180,8 @@ fn accumulate(
         (now (workspace .exit))
         r ⌝ }
 {
-    let mut row = [0.0f64; status::MAX_ORDER + 1];
     let mut places = [0usize; status::MAX_ORDER + 1];
+    let mut values = [0.0f64; status::MAX_ORDER + 1];
     let mut starts = [0usize; status::MAX_ORDER];
     regression::put_starts(&mut starts, embedding::order(model));
     let mut sums = Sums::zero();
@@ -132,8 +203,8 @@ fn accumulate(
             mass,
             z,
             y,
-            &mut row,
             &mut places,
+            &mut values,
             &starts,
             workspace,
         );
@@ -142,8 +213,20 @@ fn accumulate(
     sums
 }
 
-// The prediction for a peptide's letters, log and mass and a charge, before it is clamped. The first cells of `row` get
-// the design row, and the rest stays. For this crate and the models, which have checked the table.
+// The prediction for a peptide's letters, log and mass and a charge, with all cells of its design row written out.
+fn predict_whole(model: Model, letters: &[u8], log: f64, mass: f32, charge: u8, beta: &[f64]) -> f64
+    requires { ⌜ length (now letters) ≤ maxLetters ⌝ }
+    ensures { λ r. ⌜ r ≡ dot (design model (now (letters .entry)) log mass charge) (now (beta .entry)) ⌝ }
+{
+    let mut row = [0.0f64; status::MAX_ORDER];
+    let d = embedding::order(model);
+    embedding::embed(model, letters, log, mass, charge, &mut row);
+    regression::predict(&row[..d], beta)
+}
+
+// The prediction for a peptide's letters, log and mass and a charge, before it is clamped. `finite` says whether all
+// coefficients are. `places` and `values` are room for the cells of the design row that are not zero. For this crate
+// and the models, which have checked the table.
 pub fn predict_peptide(
     model: Model,
     letters: &[u8],
@@ -151,21 +234,20 @@ pub fn predict_peptide(
     mass: f32,
     charge: u8,
     beta: &[f64],
-    row: &mut [f64],
+    finite: bool,
+    places: &mut [usize],
+    values: &mut [f64],
 ) -> f64
     requires { ⌜ length (now letters) ≤ maxLetters ⌝ }
-    requires { ⌜ orderOf model ≤ length (now row) ⌝ }
-    ensures { λ r. ⌜ PeptidePredicted
-        (orderOf model)
-        (design model (now (letters .entry)) log mass charge)
-        (now (beta .entry))
-        (now (row .entry))
-        (now (row .exit))
-        r ⌝ }
+    requires { ⌜ (length (now beta) ≡ orderOf model) × (finite ≡ allFinite (now beta)) ⌝ }
+    requires { ⌜ (orderOf model ≤ length (now places)) × (orderOf model ≤ length (now values)) ⌝ }
+    ensures { λ r. ⌜ r ≡ dot (design model (now (letters .entry)) log mass charge) (now (beta .entry)) ⌝ }
 {
-    let d = embedding::order(model);
-    embedding::embed(model, letters, log, mass, charge, row);
-    regression::predict(&row[..d], beta)
+    if !finite {
+        return predict_whole(model, letters, log, mass, charge, beta);
+    }
+    let n = embedding::list(model, letters, log, mass, charge, places, values);
+    regression::predict_listed(&places[..n], &values[..n], beta)
 }
 
 // A prediction less its target.
@@ -190,11 +272,14 @@ fn sum_squares(
     beta: &[f64],
 ) -> f64
     requires { ⌜ Checked (inputAt peptide label q charge observed letters offsets masses logs) ⌝ }
+    requires { ⌜ length (now beta) ≡ orderOf model ⌝ }
     ensures { λ r. ⌜ r ≡ sse
         (now (beta .entry))
         (trainingSamples model (modelInput peptide label q charge observed letters offsets masses logs)) ⌝ }
 {
-    let mut row = [0.0f64; status::MAX_ORDER];
+    let mut places = [0usize; status::MAX_ORDER];
+    let mut values = [0.0f64; status::MAX_ORDER];
+    let finite = regression::all_finite(beta);
     let mut sse = 0.0;
     for k in 0..peptide.len() {
         if !trains_at(label, q, k) {
@@ -207,7 +292,17 @@ fn sum_squares(
         let sequence = peptide::sequence(letters, offsets, p);
         let log = log_at(logs, p);
         let mass = mass_at(masses, p);
-        let x = predict_peptide(model, sequence, log, mass, z, beta, &mut row);
+        let x = predict_peptide(
+            model,
+            sequence,
+            log,
+            mass,
+            z,
+            beta,
+            finite,
+            &mut places,
+            &mut values,
+        );
         let residual = residual_of(x, y);
         sse = sse + residual * residual;
     }

@@ -34,17 +34,17 @@ use Rattle.model_fit.proofs.training.accumulate.Tie as tie
 
 abbrev Inv-loop : tie.InvT-loop
 Inv-loop model peptide label q charge observed letters offsets masses logs
-    workspace₀ row₀ places₀ starts sums₀ i₀ i-end workspace row places sums i =
+    workspace₀ places₀ values₀ starts sums₀ i₀ i-end workspace places values sums i =
     let input : Input = inputOf peptide label q charge observed letters offsets masses logs in
     (i ≤ length peptide)
     × (workspace ≡ holding (orderOf model) (normal (orderOf model) (seen model input i)))
     × (sums ≡ sumsOf (seen model input i))
-    × (length row ≡ maxOrder + 1)
     × (length places ≡ maxOrder + 1)
+    × (length values ≡ maxOrder + 1)
 
 abbrev μ-loop : tie.MeasureT-loop
 μ-loop model peptide label q charge observed letters offsets masses logs
-    workspace₀ row₀ places₀ starts sums₀ i₀ i-end workspace row places sums i =
+    workspace₀ places₀ values₀ starts sums₀ i₀ i-end workspace places values sums i =
     length peptide - i
 
 -- where the function begins, and what it was passed
@@ -248,8 +248,8 @@ add-sample-requires c κs =
     let n = order-max (s m .args .model) in (
       short m,
       (
-        omega (arith, n, l .inv .3),
-        ((omega (arith, n, l .inv .4), filled (turn m .before)), still (turn m .before)),
+        (omega (arith, n, l .inv .3), omega (arith, n, l .inv .4)),
+        (filled (turn m .before), still (turn m .before)),
       ),
     )
 

@@ -1,52 +1,85 @@
--- `model_fit::training::add_sample` meets its contract: the sample that is put into `row` is added to the equations.
-use Prim.Native.Nat.{ℕ, _+_, _≤_}
-use native.Mathlib.Omega.{arith}
+-- `model_fit::training::add_sample` meets its contract: a sample that is not finite is written out, and another is added by
+-- its cells that are not zero.
+use mathlib.Core.Path.{_≡_, sym, ap, _∙_}
 use mathlib.Core.List.{List}
-use lib.Ieee.{Float}
-use lib.ListN.{length, length-take}
-use lib.Seq.{length-take-le}
+use Prim.Native.Nat.{ℕ, _+_, _-_, _≤_}
+use native.Mathlib.Omega.{arith}
+use denote.Ref.{now}
+use lib.Ieee.{Float, nan}
+use lib.ListN.{length, getD, take, length-append}
+use lib.Seq.{length-take-le, getD-append-add}
+use borrow.Author.Tests.{not-false}
+use Rattle.embedding.specs.Design.{orderOf, design}
+use Rattle.regression.specs.Regression.{extended}
+use Rattle.regression.specs.Sparse.{ListedRow}
+use Rattle.model_fit.specs.Samples.{sampleFrom}
+use Rattle.model_fit.proofs.Rows.{wide-design}
 use borrow.Author.Needs.{needs}
 use Rattle.model_fit.proofs.training.add_sample.Statement.{statement}
 use Rattle.model_fit.proofs.training.add_sample.Tie as tie
 
--- the sample is put into the row, which is long enough
-module _ (o : tie.After-order) where
-  abbrev put : tie.After-put-sample
-  put = o .before .before .before
-
+-- the sample is listed
+module _ (o : tie.After-list-sample) where
   abbrev s : tie.Start
-  s = put .before .before .before .before .before .before .before
+  s = o .before .before .before .before .before .before .before .before
 
-  abbrev d : ℕ
-  d = o .order .result
+  abbrev D : ℕ
+  D = orderOf (s .args .model)
 
   abbrev row : List Float
-  row = put .put-sample .last .1 .1 .1 .1 .1 .1 .0
+  row = let a = s .args in design (a .model) (now (a .letters)) (a .log) (a .mass) (a .charge)
 
-  row-fits : d + 1 ≤ length row
-  row-fits = omega (arith, o .order .ensures, s .pre .1 .0, put .put-sample .kept .1 .1 .1 .1 .1 .1 .0)
+  abbrev ext : List Float
+  ext = extended (sampleFrom row (s .args .y))
 
-put-sample-requires : tie.Need-put-sample-requires
-put-sample-requires c κs = search needs
+  abbrev n : ℕ
+  n = o .list-sample .result
 
-order-requires : tie.Need-order-requires
-order-requires c κs = search needs
+  abbrev places : List ℕ
+  places = o .list-sample .last .1 .1 .1 .1 .1 .1 .0
 
-add-w : tie.Need-add-w
-add-w c = search needs
+  abbrev values : List Float
+  values = o .list-sample .last .1 .1 .1 .1 .1 .1 .1 .0
 
-slice-reshare-prefix-add-row-sparse : tie.Need-slice-reshare-prefix-add-row-sparse
-slice-reshare-prefix-add-row-sparse c = row-fits (c .before)
+  few : (n ≤ length places) × (n ≤ length values)
+  few =
+      let k = o .list-sample .kept .1 .1 .1 .1 .1 .1 in (
+        omega (arith, o .list-sample .ensures .0, s .pre .1 .0 .0, k .0),
+        omega (arith, o .list-sample .ensures .0, s .pre .1 .0 .1, k .1 .0),
+      )
 
-slice-aggregate-add-row-sparse : tie.Need-slice-aggregate-add-row-sparse
-slice-aggregate-add-row-sparse c = simp length-take (omega (arith, row-fits (c .before .before)))
+  wide : length row ≡ D
+  wide = let a = s .args in wide-design (a .model) (now (a .letters)) (a .log) (a .mass) (a .charge)
 
-add-row-sparse-requires : tie.Need-add-row-sparse-requires
-add-row-sparse-requires c κs =
-    let o = c .before .before .before in (
-      (rw (o .order .ensures) (s o .pre .1 .1 .1), length-take-le (d o + 1) (row o) (row-fits o)),
-      rw (o .order .ensures) (s o .pre .1 .1 .0),
-    )
+  listed : ListedRow (D + 1) (s .args .y) (take n places) (take n values) ext
+  listed = record {
+    wide = length-append row _ ∙ ap (λ (k : ℕ). k + 1) wide;
+    some = omega arith;
+    listed = o .list-sample .ensures .1;
+    last =
+        ap (λ (k : ℕ). getD ext k nan) {x = D + 1 - 1} {y = length row + 0} (omega (arith, wide))
+        ∙ getD-append-add row _ 0 nan;
+  }
+
+list-sample-requires : tie.Need-list-sample-requires
+list-sample-requires c κs = search needs
+
+slice-reshare-prefix-all-finite : tie.Need-slice-reshare-prefix-all-finite
+slice-reshare-prefix-all-finite c = search needs
+
+slice-aggregate-all-finite : tie.Need-slice-aggregate-all-finite
+slice-aggregate-all-finite c =
+    let o = c .before .before .before .before .before in
+    sym (length-take-le (n o) (values o) (omega (arith, few o .1)))
+
+all-finite-requires : tie.Need-all-finite-requires
+all-finite-requires c κs = search needs
+
+add-whole-requires : tie.Need-add-whole-requires
+add-whole-requires c κs =
+    let o = c .before .before .before .before .before .before .before .before .before in
+    let k = o .list-sample .kept .1 .1 .1 .1 .1 .1 .0 in
+    (s o .pre .0, ((omega (arith, s o .pre .1 .0 .0, k), s o .pre .1 .1 .0), s o .pre .1 .1 .1))
 
 same-length : tie.Need-same-length
 same-length c = search needs
@@ -58,22 +91,73 @@ same-length-3 : tie.Need-same-length-3
 same-length-3 c = search needs
 
 returns : tie.Need-returns
-returns c =
-    let added = c .before .before .before .before in
-    let o = added .before .before .before .before in
-    rw (← put o .put-sample .ensures) (rw (o .order .ensures) at (added .add-row-sparse .ensures .0))
+returns c = search needs
+
+order-requires : tie.Need-order-requires
+order-requires c κs = search needs
+
+slice-reshare-prefix-add-row-listed : tie.Need-slice-reshare-prefix-add-row-listed
+slice-reshare-prefix-add-row-listed c = search needs
+
+slice-aggregate-add-row-listed : tie.Need-slice-aggregate-add-row-listed
+slice-aggregate-add-row-listed c =
+    let o = c .before .before .before .before .before .before .before .before .before .before in
+    sym (length-take-le (n o) (places o) (omega (arith, few o .0)))
+
+slice-reshare-prefix-add-row-listed-2 : tie.Need-slice-reshare-prefix-add-row-listed-2
+slice-reshare-prefix-add-row-listed-2 c = search needs
+
+slice-aggregate-add-row-listed-2 : tie.Need-slice-aggregate-add-row-listed-2
+slice-aggregate-add-row-listed-2 c =
+    let o = c .before .before .before .before .before .before .before .before .before .before .before in
+    sym (length-take-le (n o) (values o) (omega (arith, few o .1)))
+
+add-row-listed-requires : tie.Need-add-row-listed-requires
+add-row-listed-requires c κs =
+    let e = c .before .before .before in
+    let f = e .before in
+    let o = e .before .before .before .before .before .before .before .before in
+    let finite = sym (f .before .all-finite .ensures) ∙ not-false _ (f .if1 .left) in (
+      (rw (e .order .ensures) (s o .pre .1 .1 .1), rw (e .order .ensures) (s o .pre .1 .1 .0)),
+      (finite, (ext o, rw (e .order .ensures) (listed o))),
+    )
+
+same-length-4 : tie.Need-same-length-4
+same-length-4 c = search needs
+
+same-length-5 : tie.Need-same-length-5
+same-length-5 c = search needs
+
+same-length-6 : tie.Need-same-length-6
+same-length-6 c = search needs
+
+returns-2 : tie.Need-returns-2
+returns-2 c =
+    let a = c .before .before in
+    let e = a .before .before .before .before in
+    let o = e .before .before .before .before .before .before .before .before in
+    rw (e .order .ensures) at (a .add-row-listed .ensures .0) (ext o) (listed o)
 
 pub add-sample-spec : {M : Type 1} → statement M
 add-sample-spec =
     tie.close
     (tie.spec
-    put-sample-requires
-    order-requires
-    add-w
-    slice-reshare-prefix-add-row-sparse
-    slice-aggregate-add-row-sparse
-    add-row-sparse-requires
+    list-sample-requires
+    slice-reshare-prefix-all-finite
+    slice-aggregate-all-finite
+    all-finite-requires
+    add-whole-requires
     same-length
     same-length-2
     same-length-3
-    returns)
+    returns
+    order-requires
+    slice-reshare-prefix-add-row-listed
+    slice-aggregate-add-row-listed
+    slice-reshare-prefix-add-row-listed-2
+    slice-aggregate-add-row-listed-2
+    add-row-listed-requires
+    same-length-4
+    same-length-5
+    same-length-6
+    returns-2)

@@ -116,7 +116,7 @@ returns-2 c =
 sum-squares-requires : tie.Need-sum-squares-requires
 sum-squares-requires c κs =
     let e = c .before .before .before .before .before .before .before .before in
-    s (d e) .pre .0
+    (s (d e) .pre .0, e .solve .kept .1 .1 .0 ∙ s (d e) .pre .1 .1)
 
 r2-requires : tie.Need-r2-requires
 r2-requires c κs = search needs

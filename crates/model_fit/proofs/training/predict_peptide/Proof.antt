@@ -1,81 +1,107 @@
--- `model_fit::training::predict_peptide` meets its contract: the row's first cells are the design row, as `embed` says.
-use mathlib.Core.Path.{_≡_, ap, _∙_}
+-- `model_fit::training::predict_peptide` meets its contract: where a coefficient is not finite the row is written out, and
+-- else its cells that are not zero are listed.
+use mathlib.Core.Path.{_≡_, sym, _∙_}
 use mathlib.Core.List.{List}
 use Prim.Native.Nat.{ℕ, _≤_}
 use native.Mathlib.Omega.{arith}
 use denote.Ref.{now}
 use lib.Ieee.{Float}
-use lib.ListN.{length, take, length-take}
+use lib.ListN.{length, take}
+use lib.Seq.{length-take-le}
+use borrow.Author.Tests.{not-false}
+use Rattle.embedding.specs.Design.{orderOf, design}
+use Rattle.regression.specs.Sparse.{ListedCells}
+use Rattle.model_fit.proofs.Rows.{wide-design}
 use borrow.Author.Needs.{needs}
-use Rattle.embedding.specs.Design.{orderOf, design as rowOf}
-use Rattle.regression.specs.Regression.{dot}
-use Rattle.model_fit.proofs.Laws.{front-take}
 use Rattle.model_fit.proofs.training.predict_peptide.Statement.{statement}
 use Rattle.model_fit.proofs.training.predict_peptide.Tie as tie
 
--- where the function begins
-abbrev start : tie.After-order → tie.Start
-start o = o .before .before .before .before
-
--- the row is written: it is as long as it was, and long enough
-module _ (e : tie.After-embed) where
-  abbrev o : tie.After-order
-  o = e .before .before
-
+-- the design row is listed
+module _ (o : tie.After-list) where
   abbrev s : tie.Start
-  s = start o
-
-  abbrev d : ℕ
-  d = o .order .result
+  s = o .before .before .before .before .before .before .before .before
 
   abbrev row : List Float
-  row = e .embed .last .1 .1 .1 .1 .1 .0
+  row = let a = s .args in design (a .model) (now (a .letters)) (a .log) (a .mass) (a .charge)
 
-  long : length row ≡ length (now (s .args .row))
-  long = e .embed .kept .1 .1 .1 .1 .1 .0
+  abbrev n : ℕ
+  n = o .list .result
 
-  small : d ≤ length row
-  small = omega (arith, o .order .ensures, s .pre .1, long)
+  abbrev places : List ℕ
+  places = o .list .last .1 .1 .1 .1 .1 .0
 
-order-requires : tie.Need-order-requires
-order-requires c κs = search needs
+  abbrev values : List Float
+  values = o .list .last .1 .1 .1 .1 .1 .1 .0
 
-embed-requires : tie.Need-embed-requires
-embed-requires c κs = let s = start (c .before) in (omega (arith, s .pre .0), s .pre .1)
+  few : (n ≤ length places) × (n ≤ length values)
+  few =
+      let k = o .list .kept .1 .1 .1 .1 .1 in (
+        omega (arith, o .list .ensures .0, s .pre .1 .1 .0, k .0),
+        omega (arith, o .list .ensures .0, s .pre .1 .1 .1, k .1 .0),
+      )
 
-slice-reshare-prefix-predict : tie.Need-slice-reshare-prefix-predict
-slice-reshare-prefix-predict c = small (c .before .before)
+  listed : ListedCells 0 (length (now (s .args .beta))) (take n places) (take n values) row
+  listed =
+      let a = s .args in
+      record {
+        wide = wide-design (a .model) (now (a .letters)) (a .log) (a .mass) (a .charge) ∙ sym (s .pre .1 .0 .0);
+        listed = o .list .ensures .1;
+      }
 
-slice-aggregate-predict : tie.Need-slice-aggregate-predict
-slice-aggregate-predict c = let e = c .before .before .before in simp length-take (omega (arith, small e))
-
-predict-requires : tie.Need-predict-requires
-predict-requires c κs = search needs
-
-same-length : tie.Need-same-length
-same-length c = long (c .before .before .before .before)
+predict-whole-requires : tie.Need-predict-whole-requires
+predict-whole-requires c κs = search needs
 
 returns : tie.Need-returns
-returns c =
-    let e = c .before .before .before .before in
-    let a = s e .args in
-    let design : List Float = rowOf (a .model) (now (a .letters)) (a .log) (a .mass) (a .charge) in
-    let x : take (d e) (row e) ≡ design =
-    ap (λ (n : ℕ). take n (row e)) (o e .order .ensures)
-    ∙ front-take design _ (row e) (orderOf (a .model)) (e .embed .ensures) (long e) (s e .pre .1) in
-    record {
-      prediction = c .predict .ensures ∙ ap (λ (r : List Float). dot r (now (a .beta))) x;
-      row = e .embed .ensures;
-    }
+returns c = search needs
+
+list-requires : tie.Need-list-requires
+list-requires c κs = search needs
+
+slice-reshare-prefix-predict-listed : tie.Need-slice-reshare-prefix-predict-listed
+slice-reshare-prefix-predict-listed c = search needs
+
+slice-aggregate-predict-listed : tie.Need-slice-aggregate-predict-listed
+slice-aggregate-predict-listed c =
+    let o = c .before .before .before .before .before in
+    sym (length-take-le (n o) (places o) (omega (arith, few o .0)))
+
+slice-reshare-prefix-predict-listed-2 : tie.Need-slice-reshare-prefix-predict-listed-2
+slice-reshare-prefix-predict-listed-2 c = search needs
+
+slice-aggregate-predict-listed-2 : tie.Need-slice-aggregate-predict-listed-2
+slice-aggregate-predict-listed-2 c =
+    let o = c .before .before .before .before .before .before in
+    sym (length-take-le (n o) (values o) (omega (arith, few o .1)))
+
+predict-listed-requires : tie.Need-predict-listed-requires
+predict-listed-requires c κs =
+    let o = c .before .before .before .before .before .before in
+    let finite = sym (s o .pre .1 .0 .1) ∙ not-false _ (o .before .before .before .if1 .left) in
+    (finite, (row o, listed o))
+
+same-length : tie.Need-same-length
+same-length c = search needs
+
+same-length-2 : tie.Need-same-length-2
+same-length-2 c = search needs
+
+returns-2 : tie.Need-returns-2
+returns-2 c =
+    let o = c .before .before .before .before .before .before .before in
+    c .predict-listed .ensures (row o) (listed o)
 
 pub predict-peptide-spec : {M : Type 1} → statement M
 predict-peptide-spec =
     tie.close
     (tie.spec
-    order-requires
-    embed-requires
-    slice-reshare-prefix-predict
-    slice-aggregate-predict
-    predict-requires
+    predict-whole-requires
+    returns
+    list-requires
+    slice-reshare-prefix-predict-listed
+    slice-aggregate-predict-listed
+    slice-reshare-prefix-predict-listed-2
+    slice-aggregate-predict-listed-2
+    predict-listed-requires
     same-length
-    returns)
+    same-length-2
+    returns-2)

@@ -28,17 +28,22 @@ use Rattle.model_fit.proofs.training.sum_squares.Statement.{statement}
 use Rattle.model_fit.proofs.training.sum_squares.Tie as tie
 
 abbrev Inv-loop : tie.InvT-loop
-Inv-loop model peptide label q charge observed letters offsets masses logs beta row₀ sse₀ k₀ k-end row sse k =
+Inv-loop model peptide label q charge observed letters offsets masses logs beta
+    places₀ values₀ finite sse₀ k₀ k-end places values sse k =
     let input : Input = inputOf peptide label q charge observed letters offsets masses logs in
-    (k ≤ length peptide) × (sse ≡ sseOf beta (seen model input k)) × (length row ≡ maxOrder)
+    (k ≤ length peptide)
+    × (sse ≡ sseOf beta (seen model input k))
+    × (length places ≡ maxOrder)
+    × (length values ≡ maxOrder)
 
 abbrev μ-loop : tie.MeasureT-loop
-μ-loop model peptide label q charge observed letters offsets masses logs beta row₀ sse₀ k₀ k-end row sse k =
+μ-loop model peptide label q charge observed letters offsets masses logs beta
+    places₀ values₀ finite sse₀ k₀ k-end places values sse k =
     length peptide - k
 
 -- where the function begins, and what it was passed
 abbrev start : tie.At-loop Inv-loop μ-loop → tie.Start Inv-loop μ-loop
-start at = at .before .before .before .before .before .before .before .before .before .before
+start at = at .before .before .before .before .before .before .before .before .before .before .before
 
 abbrev passed : tie.Start Inv-loop μ-loop → Input
 passed s =
@@ -54,7 +59,7 @@ has : (t : tie.In-loop Inv-loop μ-loop)
     → let i = passed (start (t .before)) in Listed (i .table) (getD (i .peptides) (t .before .loop .k) 0)
 has t =
     let s = start (t .before) in
-    listed (passed s .table) (passed s .peptides) (t .before .loop .k) (s .pre .numbered) (inside t)
+    listed (passed s .table) (passed s .peptides) (t .before .loop .k) (s .pre .0 .numbered) (inside t)
 
 -- the place of the turn at which a training row's peptide is looked up
 module _ (m : tie.After-mass-at Inv-loop μ-loop) where
@@ -105,16 +110,19 @@ one-more model i beta k x y before checked h t ey ex eb =
     rw (add-one k) (seen-trains model i checked k h t) in
     rw (ex, ey, eb) (sym (sse-snoc beta ss (sampleAt model i k)) ∙ ap (sseOf beta) (sym n))
 
+all-finite-requires : tie.Need-all-finite-requires Inv-loop μ-loop
+all-finite-requires c κs = search needs
+
 loop-holds : tie.Need-loop-holds Inv-loop μ-loop
 unfolding kept ofBits
 loop-holds c =
-    let s = c .before .before .before .before .before .before .before .before .before in
-    (search needs, sym (sse-nil (now (s .args .beta))), refl)
+    let s = c .before .before .before .before .before .before .before .before .before .before in
+    (search needs, sym (sse-nil (now (s .args .beta))), refl, refl)
 
 trains-at-requires : tie.Need-trains-at-requires Inv-loop μ-loop
 trains-at-requires c κs =
     let s = start (c .before) in
-    (omega (arith, s .pre .labels-long), omega (arith, s .pre .qs-long))
+    (omega (arith, s .pre .0 .labels-long), omega (arith, s .pre .0 .qs-long))
 
 add-k : tie.Need-add-k Inv-loop μ-loop
 add-k c = search needs
@@ -132,14 +140,14 @@ loop-again c =
     let t : trains (getD (i .labels) k (pos 0)) (getD (i .qs) k nan) ≡ false =
     sym (c .before .trains-at .ensures) ∙ not-true _ (c .if1 .taken) in
     let n : seen model i (k + 1) ≡ seen model i k =
-    rw (add-one k) (seen-outside model i (s .pre) k (inside (c .before .before)) t) in
-    (omega arith, at .loop .inv .1 ∙ ap (sseOf (now (s .args .beta))) (sym n), at .loop .inv .2)
+    rw (add-one k) (seen-outside model i (s .pre .0) k (inside (c .before .before)) t) in
+    (omega arith, at .loop .inv .1 ∙ ap (sseOf (now (s .args .beta))) (sym n), at .loop .inv .2, at .loop .inv .3)
 
 mul-widen : tie.Need-mul-widen Inv-loop μ-loop
-mul-widen c = omega (arith, start (c .before .before .before) .pre .observed-long)
+mul-widen c = omega (arith, start (c .before .before .before) .pre .0 .observed-long)
 
 shared-slice-read-widen : tie.Need-shared-slice-read-widen Inv-loop μ-loop
-shared-slice-read-widen c = omega (arith, start (c .before .before .before .before) .pre .observed-long)
+shared-slice-read-widen c = omega (arith, start (c .before .before .before .before) .pre .0 .observed-long)
 
 widen-requires : tie.Need-widen-requires Inv-loop μ-loop
 widen-requires c κs = search needs
@@ -165,40 +173,54 @@ mass-at-requires c κs = has (c .before .before .before .before .before .before 
 slice-aggregate-predict-peptide : tie.Need-slice-aggregate-predict-peptide Inv-loop μ-loop
 slice-aggregate-predict-peptide c = sym (turn (c .before) .before .loop .inv .2)
 
+slice-aggregate-predict-peptide-2 : tie.Need-slice-aggregate-predict-peptide-2 Inv-loop μ-loop
+slice-aggregate-predict-peptide-2 c = sym (turn (c .before .before) .before .loop .inv .3)
+
 predict-peptide-requires : tie.Need-predict-peptide-requires Inv-loop μ-loop
 predict-peptide-requires c κs =
-    let m = c .before in
-    (short m, omega (arith, order-max (s m .args .model), turn m .before .loop .inv .2))
+    let m = c .before .before in
+    let l = turn m .before .loop in
+    let n = order-max (s m .args .model) in (
+      short m,
+      (
+        (s m .pre .1, turn m .before .before .all-finite .ensures),
+        (omega (arith, n, l .inv .2), omega (arith, n, l .inv .3)),
+      ),
+    )
 
 residual-of-requires : tie.Need-residual-of-requires Inv-loop μ-loop
 residual-of-requires c κs = search needs
 
 add-k-2 : tie.Need-add-k-2 Inv-loop μ-loop
-add-k-2 c = search needs
+add-k-2 c =
+    let m = c .before .before .before .before .before .before in
+    omega (arith, inside (turn m), s m .pre .0 .rows-max)
 
 loop-less-2 : tie.Need-loop-less-2 Inv-loop μ-loop
 loop-less-2 c = search needs
 
 loop-again-2 : tie.Need-loop-again-2 Inv-loop μ-loop
 loop-again-2 c =
-    let x = c .before .before .predict-peptide in
-    let m = c .before .before .before .before in
+    let x = c .before .before .before .predict-peptide in
+    let m = c .before .before .before .before .before .before in
     let l = turn m .before .loop in
     let a = s m .args in
-    let y = charged m .before .widen in (
+    let y = charged m .before .widen in
+    let kept = x .kept .1 .1 .1 .1 .1 .1 .1 in (
       omega (arith, inside (turn m)),
       rw (c .residual-of .ensures)
-          (one-more (a .model) (passed (s m)) (now (a .beta)) (k m) (x .result) (y .result) (l .sse) (s m .pre)
+          (one-more (a .model) (passed (s m)) (now (a .beta)) (k m) (x .result) (y .result) (l .sse) (s m .pre .0)
           (inside (turn m)) (trained m) (y .ensures)
-          (x .ensures .prediction ∙ ap (λ (r : List Float). dot r (now (a .beta))) (row-is m)) (l .inv .1)),
-      x .kept .1 .1 .1 .1 .1 .1 .0 ∙ l .inv .2,
+          (x .ensures ∙ ap (λ (r : List Float). dot r (now (a .beta))) (row-is m)) (l .inv .1)),
+      kept .0 ∙ l .inv .2,
+      kept .1 .0 ∙ l .inv .3,
     )
 
 returns : tie.Need-returns Inv-loop μ-loop
 returns c =
     let s = start (c .before) in
     let l = c .before .loop in
-    l .inv .1 ∙ ap (sseOf (now (s .args .beta))) (seen-all (s .args .model) (passed s) (s .pre) (l .k) (omega arith))
+    l .inv .1 ∙ ap (sseOf (now (s .args .beta))) (seen-all (s .args .model) (passed s) (s .pre .0) (l .k) (omega arith))
 
 pub sum-squares-spec : {M : Type 1} → statement M
 sum-squares-spec =
@@ -206,6 +228,7 @@ sum-squares-spec =
     (tie.spec
     Inv-loop
     μ-loop
+    all-finite-requires
     loop-holds
     trains-at-requires
     add-k
@@ -221,6 +244,7 @@ sum-squares-spec =
     log-at-requires
     mass-at-requires
     slice-aggregate-predict-peptide
+    slice-aggregate-predict-peptide-2
     predict-peptide-requires
     residual-of-requires
     add-k-2
