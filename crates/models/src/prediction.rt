@@ -5,6 +5,7 @@ ghost use mathlib.Core.Bool.{true};
 ghost use mathlib.Core.List.{map, zipWith};
 ghost use Prim.Native.Nat.{_≤_};
 ghost use lib.ListN.{length};
+ghost use Rattle.embedding.specs.Design.{orderOf};
 ghost use Rattle.regression.specs.Workspace.{fitSlices};
 ghost use Rattle.status.specs.Limits.{maxRows};
 ghost use Rattle.model_fit.specs.Input.{inputAt, modelInput, tableAt, tableIn, queries, fitRoom};
@@ -60,6 +61,7 @@ pub(crate) fn write_predictions(
 ) -> u32
     requires { ⌜ Numbered (tableAt letters offsets masses logs) (now peptide) ⌝ }
     requires { ⌜ (length (now peptide) ≤ maxRows) × (length (now peptide) ≤ length (now predicted)) ⌝ }
+    requires { ⌜ length (now beta) ≡ orderOf model ⌝ }
     ensures { λ _. ⌜ now (predicted .exit) ≡ overwritten
         (map
         (predictionOf model (tableIn letters offsets masses logs) (now (beta .entry)))
@@ -70,7 +72,9 @@ pub(crate) fn write_predictions(
 {
     let hi = largest(model);
     let mut inexact = 0u32;
-    let mut row = [0.0f64; status::MAX_ORDER];
+    let mut places = [0usize; status::MAX_ORDER];
+    let mut values = [0.0f64; status::MAX_ORDER];
+    let finite = regression::all_finite(beta);
     for i in 0..peptide.len() {
         let z = charge_at(charge, i);
         let number = peptide[i];
@@ -78,7 +82,17 @@ pub(crate) fn write_predictions(
         let sequence = peptide::sequence(letters, offsets, p);
         let log = log_at(logs, p);
         let mass = mass_at(masses, p);
-        let x = predict_peptide(model, sequence, log, mass, z, beta, &mut row);
+        let x = predict_peptide(
+            model,
+            sequence,
+            log,
+            mass,
+            z,
+            beta,
+            finite,
+            &mut places,
+            &mut values,
+        );
         let bounded = float::narrow(float::clamp64(x, 0.0, hi));
         predicted[i] = bounded.value;
         inexact += !bounded.exact as u32;

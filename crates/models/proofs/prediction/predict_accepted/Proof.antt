@@ -14,6 +14,7 @@ use Rattle.models.specs.Call.{PredictSlices, predictAt}
 use Rattle.models.proofs.Calls.{Room, room, PredictRoom, predict-room, predicted-within}
 use Rattle.models.proofs.Calls.{solved-count, solved-predictions, solved-errors}
 use Rattle.models.proofs.Calls.{unsolved-count, unsolved-predictions, unsolved-errors}
+use lib.Seq.{length-take-le}
 use borrow.Author.Needs.{needs}
 use borrow.Author.Tests.{not-true, not-false}
 use Rattle.models.proofs.prediction.predict_accepted.Statement.{statement}
@@ -114,8 +115,14 @@ slice-aggregate-write-predictions c = simp length-take (omega (arith, d-fits (c 
 
 write-predictions-requires : tie.Need-write-predictions-requires
 write-predictions-requires c κs =
-    let s = s (c .before .before) in
-    (s .pre .0 .numbered, (s .pre .0 .rows-max, roomy s .predictions))
+    let o = c .before .before in
+    let s = s o in (
+      s .pre .0 .numbered,
+      (
+        (s .pre .0 .rows-max, roomy s .predictions),
+        length-take-le (o .order .result) (beta o) (d-fits o) ∙ o .order .ensures,
+      ),
+    )
 
 write-errors-requires : tie.Need-write-errors-requires
 write-errors-requires c κs =

@@ -30,23 +30,26 @@ use Rattle.models.proofs.prediction.write_predictions.Statement.{statem
 use Rattle.models.proofs.prediction.write_predictions.Tie as tie
 
 abbrev Inv-loop : tie.InvT-loop
-Inv-loop model peptide charge letters offsets masses logs beta predicted₀ hi n₀ row₀ i₀ i-end predicted inexact row i =
+Inv-loop model peptide charge letters offsets masses logs beta predicted₀
+    hi n₀ places₀ values₀ finite i₀ i-end predicted inexact places values i =
     let table = tableOf letters offsets masses logs in
     let new = map (predictionOf model table beta) (queries peptide charge) in
     (i ≤ length peptide)
     × (predicted ≡ take i new ++ drop i predicted₀)
     × (length predicted ≡ length predicted₀)
-    × (length row ≡ maxOrder)
+    × (length places ≡ maxOrder)
+    × (length values ≡ maxOrder)
     × (inexact ≡ inexactIn model table beta (take i (queries peptide charge)))
 
 abbrev μ-loop : tie.MeasureT-loop
-μ-loop model peptide charge letters offsets masses logs beta predicted₀ hi n₀ row₀ i₀ i-end predicted inexact row i =
+μ-loop model peptide charge letters offsets masses logs beta predicted₀
+    hi n₀ places₀ values₀ finite i₀ i-end predicted inexact places values i =
     length peptide - i
 
 -- what the function was passed, and what it is to write and to count
 module _ (at : tie.At-loop Inv-loop μ-loop) where
   abbrev s : tie.Start Inv-loop μ-loop
-  s = at .before .before .before .before .before .before .before .before .before .before
+  s = at .before .before .before .before .before .before .before .before .before .before .before
 
   abbrev model : Model
   model = s .args .model
@@ -115,11 +118,11 @@ module _ (m : tie.After-mass-at Inv-loop μ-loop) where
 -- and at which its prediction is known, as the write and the count see it
 module _ (c : tie.After-narrow Inv-loop μ-loop) where
   abbrev looked : tie.After-mass-at Inv-loop μ-loop
-  looked = c .before .before .before .before .before
+  looked = c .before .before .before .before .before .before .before
 
-  x-is : c .before .before .before .predict-peptide .result ≡ dot (row looked) (beta (at looked))
+  x-is : c .before .before .before .before .predict-peptide .result ≡ dot (row looked) (beta (at looked))
   x-is =
-      c .before .before .before .predict-peptide .ensures .prediction
+      c .before .before .before .before .predict-peptide .ensures
       ∙ ap (λ (r : List Float). dot r (beta (at looked))) (row-is looked)
 
   bounded-is : let l = at looked in c .before .clamp64 .result
@@ -127,7 +130,7 @@ module _ (c : tie.After-narrow Inv-loop μ-loop) where
   bounded-is =
       let l = at looked in
       bounded-at (model l) (table l) (beta l) (peptides l) (charges l) (k (turn looked)) _ _ _ (inside (turn looked))
-      x-is (l .before .largest .ensures) (c .before .clamp64 .ensures)
+      x-is (l .before .before .largest .ensures) (c .before .clamp64 .ensures)
 
   count-is : let l = at looked in l .loop .inexact + boolByte (not (c .narrow .result .exact))
       ≡ count l (take (k (turn looked) + 1) (rows l))
@@ -135,14 +138,17 @@ module _ (c : tie.After-narrow Inv-loop μ-loop) where
       let l = at looked in
       inexact-next (model l) (table l) (beta l) (rows l) (k (turn looked)) (queryOf 0 0) _ _ _
       (omega (arith, length-queries (peptides l) (charges l), inside (turn looked)))
-      bounded-is (c .narrow .ensures .1) (l .loop .inv .4)
+      bounded-is (c .narrow .ensures .1) (l .loop .inv .5)
 
 largest-requires : tie.Need-largest-requires Inv-loop μ-loop
 largest-requires c κs = search needs
 
+all-finite-requires : tie.Need-all-finite-requires Inv-loop μ-loop
+all-finite-requires c κs = search needs
+
 loop-holds : tie.Need-loop-holds Inv-loop μ-loop
 unfolding howMany
-loop-holds c = (search needs, refl, refl, refl, refl)
+loop-holds c = (search needs, refl, refl, refl, refl, refl)
 
 charge-at-requires : tie.Need-charge-at-requires Inv-loop μ-loop
 charge-at-requires c κs = search needs
@@ -165,10 +171,20 @@ mass-at-requires c κs = has (c .before .before .before .before) .weighed
 slice-aggregate-predict-peptide : tie.Need-slice-aggregate-predict-peptide Inv-loop μ-loop
 slice-aggregate-predict-peptide c = sym (at (c .before) .loop .inv .3)
 
+slice-aggregate-predict-peptide-2 : tie.Need-slice-aggregate-predict-peptide-2 Inv-loop μ-loop
+slice-aggregate-predict-peptide-2 c = sym (at (c .before .before) .loop .inv .4)
+
 predict-peptide-requires : tie.Need-predict-peptide-requires Inv-loop μ-loop
 predict-peptide-requires c κs =
-    let m = c .before in
-    (short m, omega (arith, order-max (s (at m) .args .model), at m .loop .inv .3))
+    let m = c .before .before in
+    let l = at m .loop in
+    let n = order-max (s (at m) .args .model) in (
+      short m,
+      (
+        (s (at m) .pre .1 .1, at m .before .all-finite .ensures),
+        (omega (arith, n, l .inv .3), omega (arith, n, l .inv .4)),
+      ),
+    )
 
 clamp64-requires : tie.Need-clamp64-requires Inv-loop μ-loop
 clamp64-requires c κs = search needs
@@ -177,12 +193,12 @@ narrow-requires : tie.Need-narrow-requires Inv-loop μ-loop
 narrow-requires c κs = search needs
 
 mul-predicted : tie.Need-mul-predicted Inv-loop μ-loop
-mul-predicted c = search needs
+mul-predicted c = let m = looked c in omega (arith, inside (turn m), s (at m) .pre .1 .0 .0)
 
 slice-write-predicted : tie.Need-slice-write-predicted Inv-loop μ-loop
 slice-write-predicted c =
     let m = looked c in
-    omega (arith, at m .loop .inv .2, inside (turn m), s (at m) .pre .1 .1)
+    omega (arith, at m .loop .inv .2, inside (turn m), s (at m) .pre .1 .0 .1)
 
 cast-inexact : tie.Need-cast-inexact Inv-loop μ-loop
 cast-inexact c = search needs
@@ -192,12 +208,12 @@ add-inexact c =
     let m = looked (c .before) in
     let l = at m in
     let counted : count l (take (k (turn m)) (rows l)) ≤ k (turn m) = howMany-first _ (rows l) (k (turn m)) in
-    let few : l .loop .inexact ≤ k (turn m) = omega (arith, l .loop .inv .4) in
-    let h : k (turn m) < maxRows = omega (arith, inside (turn m), s l .pre .1 .0) in
+    let few : l .loop .inexact ≤ k (turn m) = omega (arith, l .loop .inv .5) in
+    let h : k (turn m) < maxRows = omega (arith, inside (turn m), s l .pre .1 .0 .0) in
     search (count-fits, few, h)
 
 add-i : tie.Need-add-i Inv-loop μ-loop
-add-i c = search needs
+add-i c = let m = looked (c .before) in omega (arith, inside (turn m), s (at m) .pre .1 .0 .0)
 
 loop-less : tie.Need-loop-less Inv-loop μ-loop
 loop-less c = search needs
@@ -211,15 +227,17 @@ loop-again c =
     let old : List Float = now (s t .args .predicted) in
     let e = long t in
     let h = inside (turn m) in
-    let p : length (peptides t) ≤ length old = s t .pre .1 .1 in
+    let p : length (peptides t) ≤ length old = s t .pre .1 .0 .1 in
     let v =
     prediction-at (model t) (table t) (beta t) (rows t) (l .i) (queryOf 0 0) _ _ (bounded-is n)
-    (n .narrow .ensures .0) in (
+    (n .narrow .ensures .0) in
+    let kept = n .before .before .before .before .predict-peptide .kept .1 .1 .1 .1 .1 .1 .1 in (
       omega (arith, h),
       write-next (new t) old (l .predicted) (l .i) (n .narrow .result .value) _
           (omega arith) (omega arith) (l .inv .1) v,
       simp length-set (l .inv .2),
-      n .before .before .before .predict-peptide .kept .1 .1 .1 .1 .1 .1 .0 ∙ l .inv .3,
+      kept .0 ∙ l .inv .3,
+      kept .1 .0 ∙ l .inv .4,
       count-is n,
     )
 
@@ -234,7 +252,7 @@ returns c =
     let q = length-queries (peptides at) (charges at) in (
       l .inv .1
           ∙ overwrite-all (new at) (now (s at .args .predicted)) (l .i) (omega (arith, l .inv .0, c .loop-test .left)),
-      l .inv .4
+      l .inv .5
           ∙ ap (count at) (take-all (l .i) (rows at) (omega (arith, l .inv .0, c .loop-test .left))),
     )
 
@@ -245,6 +263,7 @@ write-predictions-spec =
     Inv-loop
     μ-loop
     largest-requires
+    all-finite-requires
     loop-holds
     charge-at-requires
     mul-number
@@ -253,6 +272,7 @@ write-predictions-spec =
     log-at-requires
     mass-at-requires
     slice-aggregate-predict-peptide
+    slice-aggregate-predict-peptide-2
     predict-peptide-requires
     clamp64-requires
     narrow-requires
