@@ -2,7 +2,7 @@
 use mathlib.Core.Path.{_≡_, refl, sym, ap, _∙_, subst}
 use mathlib.Core.Bool.{Bool, true, false}
 use mathlib.Core.List.{List, [], _∷_, _++_, map, append-assoc, append-nil}
-use Prim.Native.Nat.{ℕ, _+_, _≤_, _<_}
+use Prim.Native.Nat.{ℕ, _+_, _<_}
 use native.Mathlib.Numerals.{add-one}
 use native.Mathlib.Omega.{arith}
 use lib.Ieee.{Float, nan}
@@ -77,7 +77,8 @@ listed-as {at} {n} {r} {xs} {ys} {p₀} {p₁} {v₀} {v₁} e a =
     subst (λ (t : List Float). Appended at t n r p₀ p₁ v₀ v₁) e a
 
 -- the counts of a part that holds the letters at the positions that pass
-pub part-listed : {at n r : ℕ} {p₀ p₁ : List ℕ} {v₀ v₁ : List Float} {held : List ℕ} (sel : ℕ → ℕ → Bool) (letters : List ℕ)
+pub part-listed : {at n r : ℕ} {p₀ p₁ : List ℕ} {v₀ v₁ : List Float} {held : List ℕ} (sel : ℕ → ℕ → Bool)
+    (letters : List ℕ)
     → held ≡ chosen sel letters → Appended at (map number (columnCounts held)) n r p₀ p₁ v₀ v₁
     → Appended at (block sel letters) n r p₀ p₁ v₀ v₁
 unfolding block counts

@@ -1,19 +1,19 @@
 -- Whole numbers as cells: which are zero, their quotients, and the places and the values of such cells when each is
 -- divided by the same number.
-use mathlib.Core.Path.{_≡_, refl, sym, ap, ap₂, _∙_}
+use mathlib.Core.Path.{_≡_, refl, sym, ap, _∙_}
 use mathlib.Core.Bool.{Bool, true, false, cond, false≢true}
 use mathlib.Core.List.{List, [], _∷_, map}
 use Prim.Native.Nat.{ℕ, zero, suc, _+_, _*_, _/_, _^_, _≤_, _<_}
-use native.Mathlib.Nat.{mul-one, mul-pos, mul-assoc, mul-comm, mul-right-comm, zero-mul, zero-lt-suc, lt-irrefl, le-trans, le-of-eq, mul-le-mul-right, one-mul}
+use native.Mathlib.Nat.{mul-one, mul-pos, mul-assoc, mul-comm, zero-mul}
+use native.Mathlib.Nat.{zero-lt-suc, le-trans, le-of-eq, mul-le-mul-right, one-mul}
 use native.Mathlib.Omega.{arith}
 use lib.Count.{trailingZeros}
-use lib.Dec.{ltb, eqb, lit≤}
+use lib.Dec.{ltb, lit≤}
 use lib.IntN.{ℤ, pos}
-use lib.ListN.{length, getD}
+use lib.ListN.{getD}
 use lib.Ieee.{Float, nan, inf, fin, Format, up, down, binary64, low, prec, emax, round, units, odd, div, ofInt}
 use lib.Ieee.Back.{round-whole}
 use lib.Ieee.Exact.{HasValue}
-use lib.Ieee.Positive.{den-pos}
 use lib.Ieee.Fits.{up-pos, down-pos}
 use lib.Ieee.Scale.{round-same}
 use borrow.Author.Tests.{ne-eqb}

@@ -3,7 +3,7 @@ use mathlib.Core.Path.{_≡_, refl, sym, ap, _∙_, subst}
 use mathlib.Core.Bool.{false}
 use mathlib.Core.List.{List, [], _∷_, _++_, map}
 use Prim.Native.Nat.{ℕ, zero, suc, _+_, _≤_, _<_}
-use native.Mathlib.Nat.{le-of-suc-le-suc, not-suc-le-zero, lt-irrefl}
+use native.Mathlib.Nat.{le-of-suc-le-suc, not-suc-le-zero}
 use native.Mathlib.Omega.{arith}
 use lib.Dec.{lit<, lit≤}
 use lib.Ieee.{Float}
@@ -135,7 +135,8 @@ one-letter (x ∷ []) at a e c =
     (ap (λ (k : ℕ). tallied (range 0 22) (k ∷ [])) (sym c) ∙ one-tallied a h) (one-cell at 22 a 1 h one-some)
 one-letter (x ∷ y ∷ part) at a e c = absurd (omega arith)
 
-module _ (part : List ℕ) (at a b : ℕ) (e : length part ≡ 2) (c : a ≡ columnOf (getD part 0 0)) (d : b ≡ columnOf (getD part 1 0)) where
+module _ (part : List ℕ) (at a b : ℕ) (e : length part ≡ 2) (c : a ≡ columnOf (getD part 0 0))
+    (d : b ≡ columnOf (getD part 1 0)) where
   counts-are : columnCounts part ≡ tallied (range 0 22) (a ∷ b ∷ [])
   unfolding columnCounts
   counts-are = by part e c d
@@ -188,7 +189,8 @@ module _ {at r n : ℕ} {cells : List Float} {ps : List ℕ} {vs : List Float} (
       }
 
   -- a cell was that has the same
-  pub cell-shown : {p : ℕ} {x : Float} {p₀ p₁ : List ℕ} {v₀ v₁ : List Float} → ps ≡ p ∷ [] → vs ≡ x ∷ [] → isZero x ≡ false
+  pub cell-shown : {p : ℕ} {x : Float} {p₀ p₁ : List ℕ} {v₀ v₁ : List Float} → ps ≡ p ∷ [] → vs ≡ x ∷ []
+      → isZero x ≡ false
       → Appended p (x ∷ []) n r p₀ p₁ v₀ v₁ → Appended at cells n r p₀ p₁ v₀ v₁
   unfolding nonzeros nonzeroCells
   cell-shown {p} {x} {p₀} {p₁} {v₀} {v₁} e f z a =

@@ -1,14 +1,15 @@
 -- Laws of the binary digits that say which cells of a row are not zero: a store of a cell that is not zero sets one,
 -- and reading them off, the lowest first, finds the cells in the order of their places.
-use mathlib.Core.Path.{_≡_, refl, sym, ap, ap₂, _∙_, subst}
+use mathlib.Core.Path.{_≡_, refl, sym, ap, ap₂, _∙_}
 use mathlib.Core.Bool.{Bool, true, false, cond}
 use mathlib.Core.List.{List, [], _∷_, _++_, map, append-nil}
 use Prim.Native.Nat.{ℕ, zero, suc, _+_, _-_, _*_, _/_, _%_, _^_, _≤_, _<_, max}
-use native.Mathlib.Nat.{le-of-suc-le-suc, not-suc-le-zero, mul-pos, zero-lt-suc, zero-mul, mul-one, mul-assoc, mul-comm, one-mul, add-mul, add-zero, pow-suc, mod-eq-of-lt}
+use native.Mathlib.Nat.{le-of-suc-le-suc, not-suc-le-zero, mul-pos, zero-lt-suc, zero-mul, mul-one}
+use native.Mathlib.Nat.{mul-assoc, mul-comm, one-mul, add-mul, add-zero, pow-suc, mod-eq-of-lt}
 use native.Mathlib.Numerals.{add-one}
 use native.Mathlib.Omega.{arith}
 use lib.Bits.{bitOr, bitAnd, or-step, or-zero-r, and-block, and-self, and-shifted, shifted-half, shifted-even}
-use lib.Count.{trailingZeros, under}
+use lib.Count.{trailingZeros}
 use lib.Pow.{pow-pos, pow-lt, pow-add}
 use lib.Dec.{lit≤}
 use lib.Ieee.{Float, nan, binary64, add}
@@ -16,7 +17,7 @@ use lib.ListN.{length, getD, set, take, drop, length-drop, length-map}
 use lib.Seq.{append-snoc, drop-drop, getD-drop, take-suc-set}
 use Rattle.float.specs.Value.{isZero}
 use Rattle.matrix.specs.Nonzero.{nonzeros, nonzeroCells}
-use Rattle.matrix.proofs.Nonzero.{nonzeros-few, as-many}
+use Rattle.matrix.proofs.Nonzero.{nonzeros-few}
 use Rattle.float.specs.Number.{number}
 use Rattle.float.proofs.Whole.{number-add}
 use Rattle.embedding.specs.Count.{range, tallied}
@@ -160,11 +161,13 @@ pub record Left (counts : List Float) (places : List ℕ) (values : List Float) 
   pub values-are : nonzeroCells counts ≡ take n values ++ nonzeroCells (drop j counts)
   pub count : n + length (nonzeros j (drop j counts)) ≡ length (nonzeros 0 counts)
 
-pub all-left : (counts : List Float) (places : List ℕ) (values : List Float) → Left counts places values 0 (seenIn counts)
+pub all-left : (counts : List Float) (places : List ℕ) (values : List Float)
+    → Left counts places values 0 (seenIn counts)
 all-left counts places values =
     record { j = 0; digits = sym (mul-one (seenIn counts)); places-are = refl; values-are = refl; count = omega arith }
 
-module _ (counts : List Float) (places : List ℕ) (values : List Float) (n left : ℕ) (l : Left counts places values n left) where
+module _ (counts : List Float) (places : List ℕ) (values : List Float) (n left : ℕ)
+    (l : Left counts places values n left) where
   abbrev rest : List Float
   rest = drop (l .j) counts
 

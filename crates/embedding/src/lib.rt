@@ -48,8 +48,8 @@ pub fn embed(model: Model, letters: &[u8], log: f64, mass: f32, charge: u8, row:
     }
 }
 
-// Lists the cells of a peptide's design row that are not zero, in column order: their columns in `places`, and what they
-// are in `values`. Answers how many they are; what stands behind them in the two is of no meaning.
+// Lists the cells of a peptide's design row that are not zero, in column order: their columns in `places`, and what
+// they are in `values`. Answers how many they are; what stands behind them in the two is of no meaning.
 // For `model_fit`, as `embed`, where a sum over the listed cells stands for one over the row.
 pub fn list(
     model: Model,

@@ -134,7 +134,8 @@ fn list_both(
     requires { ⌜ (n + 2 ≤ length (now places)) × (n + 2 ≤ length (now values)) ⌝ }
     ensures { λ r. ⌜ r ≡ n + 2 ⌝ }
     ensures { λ r. ⌜ take r (now (places .exit)) ≡ take n (now (places .entry)) ++ first ∷ second ∷ [] ⌝ }
-    ensures { λ r. ⌜ take r (now (values .exit)) ≡ take n (now (values .entry)) ++ number 1 ∷ number 1 ∷ [] ⌝ }
+    ensures { λ r. ⌜ take r (now (values .exit))
+        ≡ take n (now (values .entry)) ++ number 1 ∷ number 1 ∷ [] ⌝ }
 {
     places[n] = first;
     places[n + 1] = second;

@@ -1,13 +1,13 @@
 -- `embedding::listing::count` meets its contract. The loop's invariant: the cells are the tally of the first i letters'
 -- columns, and `seen` has a digit for each that is not zero.
-use mathlib.Core.Path.{_≡_, refl, sym, ap, ap₂, _∙_, subst}
+use mathlib.Core.Path.{_≡_, sym, ap, _∙_}
 use mathlib.Core.List.{List, [], _++_, map, append-nil}
 use Prim.Native.Nat.{ℕ, _≤_, _-_, _*_, _%_, _^_, _<_}
 use native.Mathlib.Omega.{arith}
 use lib.Bits.{bitOr}
 use lib.ListN.{length, getD, take, length-set}
 use lib.Seq.{take-all}
-use lib.Ieee.{Float, ofBits, ofInt}
+use lib.Ieee.{ofBits, ofInt}
 use denote.Ref.{now}
 use Rattle.mass.specs.Mass.{columnOf}
 use Rattle.mass.proofs.Laws.{column-below}

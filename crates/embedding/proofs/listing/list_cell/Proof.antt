@@ -1,4 +1,5 @@
--- `embedding::listing::list_cell` meets its contract: the cell is stored behind the first n, and counts unless it is zero.
+-- `embedding::listing::list_cell` meets its contract: the cell is stored behind the first n, and counts unless it is
+-- zero.
 use mathlib.Core.Path.{sym, _∙_}
 use lib.Ieee.{ne, ofBits}
 use denote.Ref.{now}

@@ -1,12 +1,9 @@
 -- `embedding::listing::list_cells` meets its contract. The loop's invariant: the first k cells are listed.
-use mathlib.Core.Path.{_≡_, refl, sym, ap, _∙_, subst}
-use mathlib.Core.List.{List, [], _∷_, _++_}
-use Prim.Native.Nat.{ℕ, _+_, _≤_, _<_, _-_}
+use mathlib.Core.Path.{_≡_, refl}
+use Prim.Native.Nat.{_≤_, _<_, _-_}
 use native.Mathlib.Omega.{arith}
-use native.Mathlib.Numerals.{add-one}
-use lib.Ieee.{Float, nan}
-use lib.ListN.{length, take, getD}
-use lib.Seq.{take-all, take-suc, length-take-le}
+use lib.ListN.{length, take}
+use lib.Seq.{take-all}
 use denote.Ref.{now}
 use Rattle.embedding.specs.Listing.{Appended}
 use Rattle.embedding.proofs.Appending.{none-listed, listed-as, next-listed}

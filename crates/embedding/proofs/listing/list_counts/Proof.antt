@@ -1,6 +1,6 @@
 -- `embedding::listing::list_counts` meets its contract. The loop's invariant: the cells from some place on are left,
 -- and `left` has their digits.
-use mathlib.Core.Path.{_≡_, refl, sym, ap, _∙_}
+use mathlib.Core.Path.{_≡_, refl}
 use mathlib.Core.List.{List}
 use Prim.Native.Nat.{_≤_, _<_, _-_}
 use native.Mathlib.Omega.{arith}

@@ -1,11 +1,11 @@
 -- `embedding::listing::list_shares` meets its contract. The loop's invariant: the first p are listed again, and the
 -- first n are as they were.
-use mathlib.Core.Path.{_≡_, refl, sym, ap, ap₂, _∙_}
+use mathlib.Core.Path.{_≡_, refl, sym, ap, _∙_}
 use mathlib.Core.List.{List, [], _∷_, _++_, map, append-assoc, append-nil}
 use Prim.Native.Nat.{ℕ, suc, _+_, _≤_, _<_, _-_}
 use native.Mathlib.Numerals.{add-one}
 use native.Mathlib.Omega.{arith}
-use lib.Ieee.{Float, nan, binary64, div}
+use lib.Ieee.{nan, binary64, div}
 use lib.ListN.{length, take, set, getD, length-set}
 use lib.Seq.{take-set-le, take-suc-set, getD-take}
 use denote.Ref.{now}

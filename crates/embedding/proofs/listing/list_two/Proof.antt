@@ -1,10 +1,10 @@
 -- `embedding::listing::list_two` meets its contract: by how many letters there are, and which column is the smaller.
 use mathlib.Core.Path.{_≡_, refl, sym}
 use mathlib.Core.Logic.{⊎-elim}
-use mathlib.Core.List.{List, [], _∷_, map, append-nil}
-use Prim.Native.Nat.{ℕ, _+_, _<_}
+use mathlib.Core.List.{[], _∷_, map, append-nil}
+use Prim.Native.Nat.{_+_, _<_}
 use native.Mathlib.Omega.{arith}
-use lib.Ieee.{Float, ofBits, ofInt}
+use lib.Ieee.{ofBits, ofInt}
 use lib.ListN.{length, getD, take}
 use denote.Ref.{now}
 use Rattle.float.specs.Number.{number}

@@ -1,5 +1,5 @@
--- `embedding::mobility_model::list` meets its contract: one block after the other, or for the empty peptide the row that
--- was written.
+-- `embedding::mobility_model::list` meets its contract: one block after the other, or for the empty peptide the row
+-- that was written.
 use mathlib.Core.Path.{_≡_, refl, sym, ap, _∙_}
 use mathlib.Core.List.{List, _++_, map, append-assoc}
 use Prim.Native.Nat.{ℕ, _^_, _<_}
@@ -9,7 +9,7 @@ use lib.ListN.{length}
 use denote.Ref.{now}
 use Rattle.float.specs.Number.{number}
 use Rattle.embedding.specs.declared.Model.the-variants.{Mobility}
-use Rattle.embedding.specs.Design.{everywhere, nTerminal, cTerminal, columnCounts, counts, block, share, mobilityScalars, mobilityRow}
+use Rattle.embedding.specs.Design.{nTerminal, cTerminal, columnCounts, counts, block, share, mobilityScalars, mobilityRow}
 use Rattle.embedding.specs.Classes.{classCounts, classSums}
 use Rattle.embedding.proofs.Positions.{chosen-everywhere}
 use Rattle.embedding.proofs.Classes.{class-sums}

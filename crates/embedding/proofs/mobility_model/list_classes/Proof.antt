@@ -1,8 +1,7 @@
--- `embedding::mobility_model::list_classes` meets its contract: the sum of each class of the table, in the table's order.
-use mathlib.Core.Path.{_≡_, refl}
-use mathlib.Core.List.{[], _∷_}
+-- `embedding::mobility_model::list_classes` meets its contract: the sum of each class of the table, in the table's
+-- order.
+use mathlib.Core.Path.{refl}
 use native.Mathlib.Omega.{arith}
-use denote.Ref.{now}
 use Rattle.embedding.specs.Classes.{classSums}
 use Rattle.embedding.proofs.Appending.{both-listed, listed-as}
 use borrow.Author.Needs.{needs}

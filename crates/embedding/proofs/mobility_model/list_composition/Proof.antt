@@ -1,5 +1,5 @@
 -- `embedding::mobility_model::list_composition` meets its contract: the counts, and behind them their shares.
-use mathlib.Core.Path.{_≡_, ap, _∙_}
+use mathlib.Core.Path.{ap, _∙_}
 use native.Mathlib.Omega.{arith}
 use lib.ListN.{length}
 use denote.Ref.{now}

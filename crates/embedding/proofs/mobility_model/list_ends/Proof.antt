@@ -1,5 +1,5 @@
 -- `embedding::mobility_model::list_ends` meets its contract: one part after the other.
-use mathlib.Core.Path.{_≡_, ap}
+use mathlib.Core.Path.{ap}
 use native.Mathlib.Omega.{arith}
 use lib.ListN.{length}
 use denote.Ref.{now}

@@ -1,4 +1,5 @@
--- `embedding::mobility_model::list_written` meets its contract: the row that is listed is the whole of what was written.
+-- `embedding::mobility_model::list_written` meets its contract: the row that is listed is the whole of what was
+-- written.
 use mathlib.Core.Path.{_∙_}
 use mathlib.Core.List.{append-nil}
 use denote.Ref.{now}

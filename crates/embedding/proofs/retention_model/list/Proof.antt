@@ -1,11 +1,10 @@
 -- `embedding::retention_model::list` meets its contract: one block after the other.
-use mathlib.Core.Path.{_≡_, refl, ap, _∙_, sym}
+use mathlib.Core.Path.{ap, _∙_}
 use native.Mathlib.Omega.{arith}
 use lib.ListN.{length}
 use denote.Ref.{now}
 use Rattle.embedding.specs.declared.Model.the-variants.{Retention}
-use Rattle.embedding.specs.Design.{everywhere, nTerminal, cTerminal, block, counts, retentionRow}
-use Rattle.embedding.proofs.Positions.{chosen-everywhere}
+use Rattle.embedding.specs.Design.{everywhere, nTerminal, cTerminal, retentionRow}
 use Rattle.embedding.proofs.Totals.{length-n, length-c}
 use Rattle.embedding.proofs.Rows.{one, length-block}
 use Rattle.embedding.proofs.Appending.{both-listed, listed-as, part-listed, all-counted, length-counted}
