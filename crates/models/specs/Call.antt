@@ -44,7 +44,20 @@ fitPart s = record { workspace = s .workspace; coefficients = s .outputs .coeffi
 
 -- ---- as a function's parameters hold them, in an `ensures`
 
--- what is read as the call begins: a model's own calls lack the column that it does not use
+-- what is read as the call begins: a model's own calls lack the column that it does not use; `retentionAt` and
+-- `mobilityAt` are for a `requires`
+abbrev pub retentionAt : (peptide : Held ℕ) (label : Held ℤ) (q aligned : Held Float)
+    (letters offsets : Held ℕ) (masses logs : Held Float) → Input
+retentionAt peptide label q aligned letters offsets masses logs =
+    inputOf
+    (now peptide) (now label) (now q) [] (now aligned) (now letters) (now offsets) (now masses) (now logs)
+
+abbrev pub mobilityAt : (peptide : Held ℕ) (label : Held ℤ) (q : Held Float)
+    (charge : Held ℕ) (mobility : Held Float) (letters offsets : Held ℕ) (masses : Held Float) → Input
+mobilityAt peptide label q charge mobility letters offsets masses =
+    inputOf
+    (now peptide) (now label) (now q) (now charge) (now mobility) (now letters) (now offsets) (now masses) []
+
 abbrev pub retentionInput : (peptide : Slice ℕ) (label : Slice ℤ) (q aligned : Slice Float)
     (letters offsets : Slice ℕ) (masses logs : Slice Float) → Input
 retentionInput peptide label q aligned letters offsets masses logs =

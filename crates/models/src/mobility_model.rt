@@ -1,9 +1,23 @@
 // Mobility: a linear model of the ion mobility from 100 columns of a peptide and a charge.
+ghost use mathlib.Core.Path.{_≡_};
+ghost use mathlib.Core.Bool.{true};
 ghost use Rattle.embedding.specs.declared.Model.{Model};
 ghost use Rattle.regression.specs.Workspace.{fitSlices};
-ghost use Rattle.models.specs.Call.{mobilityInput, outputsOf, predictSlices, FitCall, PredictCall};
+ghost use Rattle.model_fit.specs.Shared.{Checked};
+ghost use Rattle.models.specs.Call.{
+  mobilityAt,
+  mobilityInput,
+  outputsOf,
+  predictAt,
+  predictSlices,
+  predictRoomIn,
+  PredictedWithin,
+  FitCall,
+  PredictCall,
+};
 use crate::FitAnswer;
 use crate::PredictAnswer;
+use crate::PredictOutcome;
 use crate::prediction;
 use embedding::Model;
 
@@ -66,6 +80,50 @@ pub fn predict(
 {
     let none = [0.0f64; 1];
     prediction::predict(
+        Model::Mobility,
+        peptide,
+        label,
+        q,
+        charge,
+        mobility,
+        letters,
+        offsets,
+        masses,
+        &none[..0],
+        workspace,
+        beta,
+        predicted,
+        error,
+    )
+}
+
+// `predict` behind its checks. For a caller that has checked the rows, the table and the room itself.
+pub fn predict_accepted(
+    peptide: &[u32],
+    label: &[i32],
+    q: &[f32],
+    charge: &[u8],
+    mobility: &[f32],
+    letters: &[u8],
+    offsets: &[u32],
+    masses: &[f32],
+    workspace: &mut [f64],
+    beta: &mut [f64],
+    predicted: &mut [f32],
+    error: &mut [f32],
+) -> PredictOutcome
+    requires { ⌜ Checked (mobilityAt peptide label q charge mobility letters offsets masses) ⌝ }
+    requires { ⌜ predictRoomIn Model.Mobility
+        (mobilityAt peptide label q charge mobility letters offsets masses)
+        (predictAt workspace beta predicted error)
+        ≡ true ⌝ }
+    ensures { λ r. ⌜ PredictedWithin Model.Mobility
+        (mobilityInput peptide label q charge mobility letters offsets masses)
+        (predictSlices workspace (outputsOf beta predicted error))
+        r ⌝ }
+{
+    let none = [0.0f64; 1];
+    prediction::predict_accepted(
         Model::Mobility,
         peptide,
         label,

@@ -245,7 +245,7 @@ fn is_solved(outcome: FitOutcome) -> bool
 }
 
 // Fits the model of a call that passed the checks and, where that is solved, writes predictions and errors.
-fn predict_accepted(
+pub(crate) fn predict_accepted(
     model: Model,
     peptide: &[u32],
     label: &[i32],

@@ -1,9 +1,23 @@
 // Retention: a linear model of the aligned time from 69 columns of a peptide.
+ghost use mathlib.Core.Path.{_≡_};
+ghost use mathlib.Core.Bool.{true};
 ghost use Rattle.embedding.specs.declared.Model.{Model};
 ghost use Rattle.regression.specs.Workspace.{fitSlices};
-ghost use Rattle.models.specs.Call.{retentionInput, outputsOf, predictSlices, FitCall, PredictCall};
+ghost use Rattle.model_fit.specs.Shared.{Checked};
+ghost use Rattle.models.specs.Call.{
+  retentionAt,
+  retentionInput,
+  outputsOf,
+  predictAt,
+  predictSlices,
+  predictRoomIn,
+  PredictedWithin,
+  FitCall,
+  PredictCall,
+};
 use crate::FitAnswer;
 use crate::PredictAnswer;
+use crate::PredictOutcome;
 use crate::prediction;
 use embedding::Model;
 
@@ -64,6 +78,49 @@ pub fn predict(
         r ⌝ }
 {
     prediction::predict(
+        Model::Retention,
+        peptide,
+        label,
+        q,
+        b"",
+        aligned,
+        letters,
+        offsets,
+        masses,
+        logs,
+        workspace,
+        beta,
+        predicted,
+        error,
+    )
+}
+
+// `predict` behind its checks. For a caller that has checked the rows, the table and the room itself.
+pub fn predict_accepted(
+    peptide: &[u32],
+    label: &[i32],
+    q: &[f32],
+    aligned: &[f32],
+    letters: &[u8],
+    offsets: &[u32],
+    masses: &[f32],
+    logs: &[f64],
+    workspace: &mut [f64],
+    beta: &mut [f64],
+    predicted: &mut [f32],
+    error: &mut [f32],
+) -> PredictOutcome
+    requires { ⌜ Checked (retentionAt peptide label q aligned letters offsets masses logs) ⌝ }
+    requires { ⌜ predictRoomIn Model.Retention
+        (retentionAt peptide label q aligned letters offsets masses logs)
+        (predictAt workspace beta predicted error)
+        ≡ true ⌝ }
+    ensures { λ r. ⌜ PredictedWithin Model.Retention
+        (retentionInput peptide label q aligned letters offsets masses logs)
+        (predictSlices workspace (outputsOf beta predicted error))
+        r ⌝ }
+{
+    prediction::predict_accepted(
         Model::Retention,
         peptide,
         label,

@@ -30,6 +30,7 @@ use Rattle.retention_alignment.specs.Call.{
   filled,
   slicesAfter,
   Written,
+  Filled,
   Aligned,
 }
 use Rattle.retention_alignment.specs.declared.AlignAnswer.the-variants.{Accepted, Refused}
@@ -85,28 +86,29 @@ refused i s n e h =
     let test : eqb (status i s) accepted ≡ false = ne-eqb (status i s) 0 (λ z. h (e ∙ z)) in
     rw e (record { answer = simp test; told = simp test; slices = simp test })
 
--- an accepted call, from what the work on the parts left
-pub accepted-is : (i : Input) (before parts : Slices) (cells : ℕ) → status i before ≡ accepted
+-- an accepted call
+pub accepted-is : (i : Input) (s t : Slices) → status i s ≡ accepted → Filled i (change s t)
+    → Aligned i (change s t) Accepted
+unfolding answerOf slicesAfter
+accepted-is i s t e f =
+    let test : eqb (status i s) accepted ≡ true = eq-eqb (status i s) 0 e in
+    record { answer = simp test; told = simp test; slices = rw test (f .slices) }
+
+-- what the work on the parts left
+pub filled-is : (i : Input) (before parts : Slices) (cells : ℕ)
     → cells ≡ i .peptides * i .files → Written i parts
     → length (parts .workspace) ≡ cells → EachOf (i .files) (parts .records)
     → length (parts .aligned) ≡ length (i .file)
-    → Aligned i (change before (record {
+    → Filled i (change before (record {
       workspace = parts .workspace ++ drop cells (before .workspace);
       records = inFront (i .files) (parts .records) (before .records);
       aligned = parts .aligned ++ drop (length (i .file)) (before .aligned);
-    })) Accepted
-unfolding answerOf filled slicesAfter
-accepted-is i before parts cells e n w lw lr la =
-    let test : eqb (status i before) accepted ≡ true = eq-eqb (status i before) 0 e in
-    let now : filled i before ≡ slicesAfter i before =
-    sym (ap (λ (b : Bool). cond b (filled i before) before) test) in
+    }))
+unfolding filled
+filled-is i before parts cells n w lw lr la =
     let workspace-is =
     overwrite-front (replicate (i .peptides * i .files) zero64) (parts .workspace) (before .workspace) cells
     (w .workspace) lw in
     let records-is = in-front (i .files) (before .records) (parts .records) (recordsFor i) lr (w .records) in
     let aligned-is = overwrite-front _ (parts .aligned) (before .aligned) (length (i .file)) (w .aligned) la in
-    record {
-      answer = simp test;
-      told = simp test;
-      slices = (λ k. record { workspace = workspace-is k; records = records-is k; aligned = aligned-is k }) ∙ now;
-    }
+    record { slices = λ k. record { workspace = workspace-is k; records = records-is k; aligned = aligned-is k } }

@@ -134,6 +134,10 @@ filled i s =
       aligned = overwritten (map (aligned (recordsFor i)) (rows i)) (s .aligned);
     }
 
+-- a call that passed the checks, on slices that may be longer than it needs
+pub record Filled (i : Input) (s : Change Slices) : Type 0 where
+  pub slices : s .exit ≡ filled i (s .entry)
+
 -- what a call leaves: a refused one every slice as it was
 unfoldable pub slicesAfter : Input → Slices → Slices
 slicesAfter i s = ifAccepted (status i s) (filled i s) s

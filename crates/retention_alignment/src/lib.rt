@@ -6,6 +6,7 @@ ghost use mathlib.Core.List.{List, map};
 ghost use Prim.Native.Nat.{ℕ};
 ghost use lib.ListN.{length};
 ghost use Rattle.status.specs.Checks.{allBelow};
+ghost use Rattle.status.specs.Status.{accepted};
 ghost use Rattle.rt_matrix.specs.Columns.{fileColumnsAt, fileColumnsOf};
 ghost use Rattle.retention_alignment.specs.Observation.{observations};
 ghost use Rattle.retention_alignment.specs.Alignments.{onLine, alignedIn};
@@ -16,8 +17,10 @@ ghost use Rattle.retention_alignment.specs.Call.{
   slicesOf,
   longEnough,
   statusBy,
+  status,
   Checked,
   Written,
+  Filled,
   Aligned,
 };
 
@@ -115,7 +118,7 @@ fn check(
     )
 }
 
-// The work of an accepted call.
+// The work of an accepted call, on slices that are as long as it needs.
 fn align(
     file: &[u32],
     peptide: &[u32],
@@ -164,6 +167,59 @@ fn align(
     matrix::zeros(cells);
 }
 
+// An accepted call, on slices that may be longer than it needs. For a caller that has made the checks itself.
+pub fn align_accepted(
+    file: &[u32],
+    peptide: &[u32],
+    label: &[i32],
+    q: &[f32],
+    rt: &[f32],
+    files: usize,
+    peptides: usize,
+    workspace: &mut [f64],
+    max_rt: &mut [f32],
+    slope: &mut [f32],
+    intercept: &mut [f32],
+    used: &mut [u32],
+    max_rt_exact: &mut [bool],
+    slope_exact: &mut [bool],
+    intercept_exact: &mut [bool],
+    aligned: &mut [f32],
+)
+    requires { ⌜ status
+        (inputAt file peptide label q rt files peptides)
+        (slicesAt workspace
+        (fileColumnsAt «max_rt» slope intercept used «max_rt_exact» «slope_exact» «intercept_exact»)
+        aligned)
+        ≡ accepted ⌝ }
+    ensures { λ _. ⌜ Filled
+        (inputOf file peptide label q rt files peptides)
+        (slicesOf workspace
+        (fileColumnsOf «max_rt» slope intercept used «max_rt_exact» «slope_exact» «intercept_exact»)
+        aligned) ⌝ }
+{
+    let cells = matrix::cell_count(peptides, files);
+    let rows = file.len();
+    align(
+        file,
+        peptide,
+        label,
+        q,
+        rt,
+        files,
+        peptides,
+        &mut workspace[..cells],
+        &mut max_rt[..files],
+        &mut slope[..files],
+        &mut intercept[..files],
+        &mut used[..files],
+        &mut max_rt_exact[..files],
+        &mut slope_exact[..files],
+        &mut intercept_exact[..files],
+        &mut aligned[..rows],
+    );
+}
+
 // The alignment. Of the workspace it needs peptides × files cells, of each field of the files' records one for each
 // file, and of aligned one for each row; what is longer keeps its rest, and a refused call leaves every slice as it
 // was.
@@ -210,9 +266,7 @@ pub fn global_alignment(
     if status != status::ACCEPTED {
         return AlignAnswer::Refused(status);
     }
-    let cells = matrix::cell_count(peptides, files);
-    let rows = file.len();
-    align(
+    align_accepted(
         file,
         peptide,
         label,
@@ -220,15 +274,15 @@ pub fn global_alignment(
         rt,
         files,
         peptides,
-        &mut workspace[..cells],
-        &mut max_rt[..files],
-        &mut slope[..files],
-        &mut intercept[..files],
-        &mut used[..files],
-        &mut max_rt_exact[..files],
-        &mut slope_exact[..files],
-        &mut intercept_exact[..files],
-        &mut aligned[..rows],
+        workspace,
+        max_rt,
+        slope,
+        intercept,
+        used,
+        max_rt_exact,
+        slope_exact,
+        intercept_exact,
+        aligned,
     );
     AlignAnswer::Accepted
 }

@@ -1,15 +1,10 @@
--- `retention_alignment::global_alignment` meets its contract: by the status, and with the work's parts written back.
+-- `retention_alignment::global_alignment` meets its contract: refused by the status, or accepted and done.
 use mathlib.Core.Path.{_≡_, sym, _∙_}
-use mathlib.Core.List.{List, _++_}
-use Prim.Native.Nat.{ℕ, _≤_}
-use native.Mathlib.Omega.{arith}
 use borrow.Author.Needs.{needs}
-use lib.ListN.{length, take, drop, length-append, length-drop}
-use lib.Seq.{length-take-le}
+use Rattle.status.specs.Status.{accepted}
 use Rattle.rt_matrix.specs.Columns.{fileColumnsAt}
-use Rattle.rt_matrix.proofs.RecordColumns.{first-each}
-use Rattle.retention_alignment.specs.Call.{Input, Slices, inputAt, slicesAt}
-use Rattle.retention_alignment.proofs.Calls.{Passed, passed, refused, accepted-is}
+use Rattle.retention_alignment.specs.Call.{Input, Slices, inputAt, slicesAt, status}
+use Rattle.retention_alignment.proofs.Calls.{refused, accepted-is}
 use Rattle.retention_alignment.proofs.global_alignment.Statement.{statement}
 use Rattle.retention_alignment.proofs.global_alignment.Tie as tie
 
@@ -28,9 +23,18 @@ slices s =
     (a .max-rt) (a .slope) (a .intercept) (a .used) (a .max-rt-exact) (a .slope-exact) (a .intercept-exact) in
     slicesAt (a .workspace) columns (a .aligned)
 
--- what the checks showed
-checks : (e : tie.Else1) → Passed (input (start (e .before))) (slices (start (e .before)))
-checks e = let s = start (e .before) in passed (input s) (slices s) (sym (e .before .check .ensures) ∙ e .if1 .left)
+-- what the checks answered
+accepts : (e : tie.Else1) → status (input (start (e .before))) (slices (start (e .before))) ≡ accepted
+accepts e = sym (e .before .check .ensures) ∙ e .if1 .left
+
+-- places in the code, each as a later one sees it: where the checks have passed, and after the work
+abbrev before-work : tie.After-align-accepted-arg9 → tie.Else1
+before-work c = c .before .before .before .before .before .before .before .before .before
+
+abbrev worked : tie.After-slice-known18 → tie.After-align-accepted
+worked c =
+    c .before .before .before .before .before .before .before .before .before .before .before .before .before .before
+    .before .before .before .before
 
 check-requires : tie.Need-check-requires
 check-requires c κs = search needs
@@ -40,226 +44,42 @@ returns c =
     let s = start (c .before) in
     refused (input s) (slices s) (c .before .check .result) (c .before .check .ensures) (c .if1 .taken)
 
--- where the cells are counted, as each slice that is lent sees it
-abbrev lent1 : tie.After-align-arg → tie.After-cell-count
-lent1 c = c .before
-
-abbrev lent2 : tie.After-align-arg2 → tie.After-cell-count
-lent2 c = lent1 (c .before)
-
-abbrev lent3 : tie.After-align-arg3 → tie.After-cell-count
-lent3 c = lent2 (c .before)
-
-abbrev lent4 : tie.After-align-arg4 → tie.After-cell-count
-lent4 c = lent3 (c .before)
-
-abbrev lent5 : tie.After-align-arg5 → tie.After-cell-count
-lent5 c = lent4 (c .before)
-
-abbrev lent6 : tie.After-align-arg6 → tie.After-cell-count
-lent6 c = lent5 (c .before)
-
-abbrev lent7 : tie.After-align-arg7 → tie.After-cell-count
-lent7 c = lent6 (c .before)
-
-abbrev lent8 : tie.After-align-arg8 → tie.After-cell-count
-lent8 c = lent7 (c .before)
-
-abbrev lent9 : tie.After-align-arg9 → tie.After-cell-count
-lent9 c = lent8 (c .before)
-
-abbrev worked : tie.After-slice-known18 → tie.After-align
-worked c =
-    c .before .before .before .before .before .before .before .before .before .before .before .before .before .before
-    .before .before .before .before
-
--- the workspace has the counted cells
-cells-fit : (d : tie.After-cell-count)
-    → d .cell-count .result ≤ length (slices (start (d .before .before)) .workspace)
-cells-fit d = omega (arith, checks (d .before) .workspace, d .cell-count .ensures)
-
-cell-count-requires : tie.Need-cell-count-requires
-cell-count-requires c κs =
-    let l = checks c .within in
-    (omega (arith, l .peptides-max), omega (arith, l .files-max), omega (arith, l .cells-max))
-
-slice-relend-prefix-align : tie.Need-slice-relend-prefix-align
-slice-relend-prefix-align c = cells-fit c
-
-slice-aggregate-align : tie.Need-slice-aggregate-align
-slice-aggregate-align c = sym (length-take-le _ _ (cells-fit (lent1 c)))
-
-slice-relend-prefix-align-2 : tie.Need-slice-relend-prefix-align-2
-slice-relend-prefix-align-2 c = checks (lent1 c .before) .records .maxRt
-
-slice-aggregate-align-2 : tie.Need-slice-aggregate-align-2
-slice-aggregate-align-2 c = sym (length-take-le _ _ (checks (lent2 c .before) .records .maxRt))
-
-slice-relend-prefix-align-3 : tie.Need-slice-relend-prefix-align-3
-slice-relend-prefix-align-3 c = checks (lent2 c .before) .records .slope
-
-slice-aggregate-align-3 : tie.Need-slice-aggregate-align-3
-slice-aggregate-align-3 c = sym (length-take-le _ _ (checks (lent3 c .before) .records .slope))
-
-slice-relend-prefix-align-4 : tie.Need-slice-relend-prefix-align-4
-slice-relend-prefix-align-4 c = checks (lent3 c .before) .records .intercept
-
-slice-aggregate-align-4 : tie.Need-slice-aggregate-align-4
-slice-aggregate-align-4 c = sym (length-take-le _ _ (checks (lent4 c .before) .records .intercept))
-
-slice-relend-prefix-align-5 : tie.Need-slice-relend-prefix-align-5
-slice-relend-prefix-align-5 c = checks (lent4 c .before) .records .used
-
-slice-aggregate-align-5 : tie.Need-slice-aggregate-align-5
-slice-aggregate-align-5 c = sym (length-take-le _ _ (checks (lent5 c .before) .records .used))
-
-slice-relend-prefix-align-6 : tie.Need-slice-relend-prefix-align-6
-slice-relend-prefix-align-6 c = checks (lent5 c .before) .records .maxRtExact
-
-slice-aggregate-align-6 : tie.Need-slice-aggregate-align-6
-slice-aggregate-align-6 c = sym (length-take-le _ _ (checks (lent6 c .before) .records .maxRtExact))
-
-slice-relend-prefix-align-7 : tie.Need-slice-relend-prefix-align-7
-slice-relend-prefix-align-7 c = checks (lent6 c .before) .records .slopeExact
-
-slice-aggregate-align-7 : tie.Need-slice-aggregate-align-7
-slice-aggregate-align-7 c = sym (length-take-le _ _ (checks (lent7 c .before) .records .slopeExact))
-
-slice-relend-prefix-align-8 : tie.Need-slice-relend-prefix-align-8
-slice-relend-prefix-align-8 c = checks (lent7 c .before) .records .interceptExact
-
-slice-aggregate-align-8 : tie.Need-slice-aggregate-align-8
-slice-aggregate-align-8 c = sym (length-take-le _ _ (checks (lent8 c .before) .records .interceptExact))
-
-slice-relend-prefix-align-9 : tie.Need-slice-relend-prefix-align-9
-slice-relend-prefix-align-9 c = checks (lent8 c .before) .aligned
-
-slice-aggregate-align-9 : tie.Need-slice-aggregate-align-9
-slice-aggregate-align-9 c = sym (length-take-le _ _ (checks (lent9 c .before) .aligned))
-
-align-requires : tie.Need-align-requires
-align-requires c κs =
-    let d = lent9 c in
-    let p = checks (d .before) in
-    record {
-      peptide = p .peptide;
-      label = p .label;
-      q = p .q;
-      rt = p .rt;
-      files-max = p .within .files-max;
-      peptides-max = p .within .peptides-max;
-      cells-max = p .within .cells-max;
-      file-numbers = p .file-numbers;
-      peptide-numbers = p .peptide-numbers;
-      workspace = length-take-le (d .cell-count .result) _ (cells-fit d) ∙ d .cell-count .ensures;
-      records = first-each _ _ (p .records);
-      aligned = length-take-le _ _ (p .aligned);
-    }
-
--- a slice whose first n cells were lent has its length again
-lent-back : {A : Type 0} (n : ℕ) (part old : List A) → length part ≡ length (take n old) → n ≤ length old
-    → length (part ++ drop n old) ≡ length old
-lent-back n part old e h =
-    omega (arith, length-append part (drop n old), length-drop n old, length-take-le n old h)
-
--- what was counted and checked, as the end sees it
-abbrev counted : tie.After-slice-known18 → tie.After-cell-count
-counted c = lent9 (worked c .before)
+align-accepted-requires : tie.Need-align-accepted-requires
+align-accepted-requires c κs = accepts (before-work c)
 
 same-length : tie.Need-same-length
-same-length c =
-    let w = worked c .align in
-    lent-back _ (w .last .1 .1 .1 .1 .1 .1 .1 .0) _ (w .kept .1 .1 .1 .1 .1 .1 .1 .0)
-    (cells-fit (counted c))
+same-length c = worked c .align-accepted .kept .1 .1 .1 .1 .1 .1 .1 .0
 
 same-length-2 : tie.Need-same-length-2
-same-length-2 c =
-    let w = worked c .align in
-    lent-back _ (w .last .1 .1 .1 .1 .1 .1 .1 .1 .0) _ (w .kept .1 .1 .1 .1 .1 .1 .1 .1 .0)
-    (checks (counted c .before) .records .maxRt)
+same-length-2 c = worked c .align-accepted .kept .1 .1 .1 .1 .1 .1 .1 .1 .0
 
 same-length-3 : tie.Need-same-length-3
-same-length-3 c =
-    let w = worked c .align in
-    lent-back _ (w .last .1 .1 .1 .1 .1 .1 .1 .1 .1 .0) _ (w .kept .1 .1 .1 .1 .1 .1 .1 .1 .1 .0)
-    (checks (counted c .before) .records .slope)
+same-length-3 c = worked c .align-accepted .kept .1 .1 .1 .1 .1 .1 .1 .1 .1 .0
 
 same-length-4 : tie.Need-same-length-4
-same-length-4 c =
-    let w = worked c .align in
-    lent-back _ (w .last .1 .1 .1 .1 .1 .1 .1 .1 .1 .1 .0) _ (w .kept .1 .1 .1 .1 .1 .1 .1 .1 .1 .1 .0)
-    (checks (counted c .before) .records .intercept)
+same-length-4 c = worked c .align-accepted .kept .1 .1 .1 .1 .1 .1 .1 .1 .1 .1 .0
 
 same-length-5 : tie.Need-same-length-5
-same-length-5 c =
-    let w = worked c .align in
-    lent-back _ (w .last .1 .1 .1 .1 .1 .1 .1 .1 .1 .1 .1 .0) _ (w .kept .1 .1 .1 .1 .1 .1 .1 .1 .1 .1 .1 .0)
-    (checks (counted c .before) .records .used)
+same-length-5 c = worked c .align-accepted .kept .1 .1 .1 .1 .1 .1 .1 .1 .1 .1 .1 .0
 
 same-length-6 : tie.Need-same-length-6
-same-length-6 c =
-    let w = worked c .align in
-    lent-back _ (w .last .1 .1 .1 .1 .1 .1 .1 .1 .1 .1 .1 .1 .0) _ (w .kept .1 .1 .1 .1 .1 .1 .1 .1 .1 .1 .1 .1 .0)
-    (checks (counted c .before) .records .maxRtExact)
+same-length-6 c = worked c .align-accepted .kept .1 .1 .1 .1 .1 .1 .1 .1 .1 .1 .1 .1 .0
 
 same-length-7 : tie.Need-same-length-7
-same-length-7 c =
-    let w = worked c .align in
-    lent-back _ (w .last .1 .1 .1 .1 .1 .1 .1 .1 .1 .1 .1 .1 .1 .0) _ (w .kept .1 .1 .1 .1 .1 .1 .1 .1 .1 .1 .1 .1 .1 .0)
-    (checks (counted c .before) .records .slopeExact)
+same-length-7 c = worked c .align-accepted .kept .1 .1 .1 .1 .1 .1 .1 .1 .1 .1 .1 .1 .1 .0
 
 same-length-8 : tie.Need-same-length-8
-same-length-8 c =
-    let w = worked c .align in
-    lent-back _ (w .last .1 .1 .1 .1 .1 .1 .1 .1 .1 .1 .1 .1 .1 .1 .0) _ (w .kept .1 .1 .1 .1 .1 .1 .1 .1 .1 .1 .1 .1 .1 .1 .0)
-    (checks (counted c .before) .records .interceptExact)
+same-length-8 c = worked c .align-accepted .kept .1 .1 .1 .1 .1 .1 .1 .1 .1 .1 .1 .1 .1 .1 .0
 
 same-length-9 : tie.Need-same-length-9
-same-length-9 c =
-    let w = worked c .align in
-    lent-back _ (w .last .1 .1 .1 .1 .1 .1 .1 .1 .1 .1 .1 .1 .1 .1 .1 .0) _ (w .kept .1 .1 .1 .1 .1 .1 .1 .1 .1 .1 .1 .1 .1 .1 .1 .0)
-    (checks (counted c .before) .aligned)
+same-length-9 c = worked c .align-accepted .kept .1 .1 .1 .1 .1 .1 .1 .1 .1 .1 .1 .1 .1 .1 .1 .0
 
 returns-2 : tie.Need-returns-2
 returns-2 c =
     let w = worked c in
-    let d = lent9 (w .before) in
-    let e = d .before in
+    let e = before-work (w .before) in
     let s = start (e .before) in
-    let l = w .align .last .1 .1 .1 .1 .1 .1 .1 in
-    let k = w .align .kept .1 .1 .1 .1 .1 .1 .1 in
-    let p = checks e in
-    let f = first-each (s .args .files) (slices s .records) (p .records) in
-    accepted-is (input s) (slices s)
-    (record {
-      workspace = l .0;
-      records =
-          record {
-            maxRt = l .1 .0;
-            slope = l .1 .1 .0;
-            intercept = l .1 .1 .1 .0;
-            used = l .1 .1 .1 .1 .0;
-            maxRtExact = l .1 .1 .1 .1 .1 .0;
-            slopeExact = l .1 .1 .1 .1 .1 .1 .0;
-            interceptExact = l .1 .1 .1 .1 .1 .1 .1 .0;
-          };
-      aligned = l .1 .1 .1 .1 .1 .1 .1 .1 .0;
-    })
-    (d .cell-count .result)
-    (sym (e .before .check .ensures) ∙ e .if1 .left)
-    (d .cell-count .ensures)
-    (w .align .ensures)
-    (k .0 ∙ length-take-le (d .cell-count .result) _ (cells-fit d))
-    (record {
-      maxRt = k .1 .0 ∙ f .maxRt;
-      slope = k .1 .1 .0 ∙ f .slope;
-      intercept = k .1 .1 .1 .0 ∙ f .intercept;
-      used = k .1 .1 .1 .1 .0 ∙ f .used;
-      maxRtExact = k .1 .1 .1 .1 .1 .0 ∙ f .maxRtExact;
-      slopeExact = k .1 .1 .1 .1 .1 .1 .0 ∙ f .slopeExact;
-      interceptExact = k .1 .1 .1 .1 .1 .1 .1 .0 ∙ f .interceptExact;
-    })
-    (k .1 .1 .1 .1 .1 .1 .1 .1 .0 ∙ length-take-le _ _ (p .aligned))
+    accepted-is (input s) (slices s) _ (accepts e) (w .align-accepted .ensures)
 
 pub global-alignment-spec : {M : Type 1} → statement M
 global-alignment-spec =
@@ -267,26 +87,7 @@ global-alignment-spec =
     (tie.spec
     check-requires
     returns
-    cell-count-requires
-    slice-relend-prefix-align
-    slice-aggregate-align
-    slice-relend-prefix-align-2
-    slice-aggregate-align-2
-    slice-relend-prefix-align-3
-    slice-aggregate-align-3
-    slice-relend-prefix-align-4
-    slice-aggregate-align-4
-    slice-relend-prefix-align-5
-    slice-aggregate-align-5
-    slice-relend-prefix-align-6
-    slice-aggregate-align-6
-    slice-relend-prefix-align-7
-    slice-aggregate-align-7
-    slice-relend-prefix-align-8
-    slice-aggregate-align-8
-    slice-relend-prefix-align-9
-    slice-aggregate-align-9
-    align-requires
+    align-accepted-requires
     same-length
     same-length-2
     same-length-3
