@@ -1,6 +1,6 @@
 -- What an accepted run leaves, from what its three parts promise.
 use mathlib.Core.Path.{_≡_, refl, sym, ap, _∙_}
-use mathlib.Core.Bool.{true, false, cond}
+use mathlib.Core.Bool.{Bool, true, false, cond}
 use mathlib.Core.List.{List, [], _++_, map, zipWith, append-assoc}
 use Prim.Native.Nat.{ℕ, _+_, _-_, _*_, _≤_, max}
 use native.Mathlib.Decide.{decLe}
@@ -17,22 +17,28 @@ use Rattle.status.specs.Status.{accepted}
 use Rattle.float.specs.Number.{zero64}
 use Rattle.matrix.specs.Lists.{overwritten}
 use Rattle.feature.specs.Feature.{Row, training}
-use Rattle.retention_alignment.specs.Call.{Slices as AlignSlices, Aligned}
-use Rattle.retention_alignment.specs.declared.AlignAnswer.{AlignAnswer}
+use Rattle.retention_alignment.specs.Call.{Slices as AlignSlices, Filled as AlignFilled}
+use Rattle.retention_alignment.specs.declared.AlignAnswer.the-variants.{Accepted}
+use Rattle.retention_alignment.proofs.Calls.{accepted-is}
 use Rattle.embedding.specs.Design.{orderOf}
 use Rattle.embedding.specs.declared.Model.the-variants.{Retention, Mobility}
 use Rattle.regression.specs.Regression.{Fit, fitOf}
 use Rattle.regression.specs.Workspace.{workspaceCells}
-use Rattle.model_fit.specs.Input.{Query, queries, columnsAgree as modelColumns}
+use Rattle.model_fit.specs.Input.{Input as ModelInput, Query, queries, columnsAgree as modelColumns}
 use Rattle.model_fit.specs.Samples.{fitOfInput}
+use Rattle.model_fit.specs.Shared.{Checked}
+use Rattle.model_fit.proofs.Status.{accepted-checked, accepted-room}
 use Rattle.models.specs.Prediction.{predictions, errors, errorOf, isSolved, predictionOf, inexact, inexactIn}
-use Rattle.models.specs.Call.{PredictSlices, PredictCall, predictStatus}
+use Rattle.models.specs.Call.{PredictSlices, PredictCall, PredictedWithin, predictRoomIn, predictStatus}
+use Rattle.models.specs.declared.PredictOutcome.{PredictOutcome}
 use Rattle.models.specs.declared.PredictAnswer.{PredictAnswer}
+use Rattle.models.specs.declared.PredictAnswer.the-variants.{Predicted}
+use Rattle.models.proofs.Calls.{predict-accepted}
 use Rattle.run.specs.Fitted.{RowOutcome, ofRetention, ofMobility, rowQuery, target, fitted, outcome}
 use Rattle.run.specs.Call.{modelRoom, roomOf}
 use Rattle.run.specs.Call.{Input, Slices, rows, peptides, fittedBy, outcomes, errorsOf}
-use Rattle.run.specs.Call.{inexactOf, predictOutcomeOf}
-use Rattle.run.specs.Call.{outcomeOf, answerOf, toldBy, filled, Filled, slicesAfter, RunCall, status}
+use Rattle.run.specs.Call.{inexactOf}
+use Rattle.run.specs.Call.{answerOf, toldBy, filled, Filled, slicesAfter, RunCall, status}
 use Rattle.run.specs.Parts.{alignInput, retentionInput, mobilityInput}
 use Rattle.run.specs.declared.RunAnswer.{RunAnswer}
 use Rattle.run.specs.declared.RunAnswer.the-variants.{Ran, Refused}
@@ -204,6 +210,10 @@ module _ (i : Input) (k : ColumnsIn i) where
 
 -- ---- the models accept
 
+-- predictions that are answered alike are alike
+same-outcome : (a b : PredictOutcome) → Predicted a ≡ Predicted b → a ≡ b
+same-outcome a b e = cc
+
 module _ (i : Input) (s : Slices) (p : Passed i (roomOf s)) where
   -- the slices that they get, with the workspace as it then is
   abbrev retentionSlices : (workspace : List Float) → PredictSlices
@@ -247,40 +257,64 @@ module _ (i : Input) (s : Slices) (p : Passed i (roomOf s)) where
       (model-room Mobility (length (i .peptide)) (length ws) (modelRoom (s .mobility)) (rw n at (p .long .mobility))
       (omega (arith, p .long .fit-cells)))
 
+  -- so what they require is met
+  pub retention-ready : (observed ws : List Float) → length observed ≡ length (i .file)
+      → length ws ≡ length (s .workspace)
+      → Checked (retentionInput i observed)
+      × (predictRoomIn Retention (retentionInput i observed) (retentionSlices ws) ≡ true)
+  retention-ready observed ws e w =
+      let m : ModelInput = retentionInput i observed in
+      let long : Bool = predictRoomIn Retention m (retentionSlices ws) in
+      let a : predictStatus Retention m (retentionSlices ws) ≡ accepted = retention-accepts observed ws e w in
+      (accepted-checked Retention m long a, accepted-room Retention m long a)
+
+  pub mobility-ready : (ws : List Float) → length ws ≡ length (s .workspace)
+      → Checked (mobilityInput i) × (predictRoomIn Mobility (mobilityInput i) (mobilitySlices ws) ≡ true)
+  mobility-ready ws w =
+      let m : ModelInput = mobilityInput i in
+      let long : Bool = predictRoomIn Mobility m (mobilitySlices ws) in
+      let a : predictStatus Mobility m (mobilitySlices ws) ≡ accepted = mobility-accepts ws w in
+      (accepted-checked Mobility m long a, accepted-room Mobility m long a)
+
   -- ---- all together
 
   abbrev alignSlices : AlignSlices
   alignSlices = record { workspace = s .workspace; records = s .records; aligned = s .aligned }
 
-  -- the alignment left t, retention's call t₁, mobility's t₂
-  pub run-filled : (t : AlignSlices) (answer : AlignAnswer)
-      → Aligned (alignInput i) (change alignSlices t) answer
+  -- the alignment left t, retention's prediction t₁, mobility's t₂
+  pub run-filled : (t : AlignSlices) → AlignFilled (alignInput i) (change alignSlices t)
       → length (t .workspace) ≡ length (s .workspace) → length (t .aligned) ≡ length (s .aligned)
-      → (t₁ : PredictSlices) (r₁ : PredictAnswer)
-      → PredictCall Retention (retentionInput i (take (length (i .file)) (t .aligned)))
+      → (t₁ : PredictSlices) (r₁ : PredictOutcome)
+      → PredictedWithin Retention (retentionInput i (take (length (i .file)) (t .aligned)))
       (change (retentionSlices (t .workspace)) t₁) r₁
       → length (t₁ .workspace) ≡ length (s .workspace)
-      → (t₂ : PredictSlices) (r₂ : PredictAnswer)
-      → PredictCall Mobility (mobilityInput i) (change (mobilitySlices (t₁ .workspace)) t₂) r₂
+      → (t₂ : PredictSlices) (r₂ : PredictOutcome)
+      → PredictedWithin Mobility (mobilityInput i) (change (mobilitySlices (t₁ .workspace)) t₂) r₂
       → Filled i (change s (record {
         workspace = t₂ .workspace;
         records = t .records;
         aligned = t .aligned;
         retention = t₁ .outputs;
         mobility = t₂ .outputs;
-      })) (Ran (outcomeOf r₁) (outcomeOf r₂))
+      })) (Ran r₁ r₂)
   unfolding filled
-  run-filled t answer c lw la t₁ r₁ c₁ l₁ t₂ r₂ c₂ =
+  run-filled t c lw la t₁ r₁ c₁ l₁ t₂ r₂ c₂ =
       let n : ℕ = length (i .file) in
+      let ok = align-accepts i (roomOf s) p in
       let a : AlignPart i alignSlices t =
-      align-part i (p .columns) alignSlices t answer (align-accepts i (roomOf s) p) c in
+      align-part i (p .columns) alignSlices t Accepted ok (accepted-is (alignInput i) alignSlices t ok c) in
       let times : List Float = take n (t .aligned) in
       let long = length-take-le n (t .aligned) (omega (arith, p .long .aligned)) in
-      let x : ModelPart ofRetention i (retentionSlices (t .workspace)) t₁ r₁ =
-      retention-part i (p .columns) times (targets-written i (p .columns) alignSlices t a)
-      (retentionSlices (t .workspace)) t₁ r₁ (retention-accepts times (t .workspace) long lw) c₁ in
-      let y : ModelPart ofMobility i (mobilitySlices (t₁ .workspace)) t₂ r₂ =
-      mobility-part i (p .columns) (mobilitySlices (t₁ .workspace)) t₂ r₂ (mobility-accepts (t₁ .workspace) l₁) c₂ in
+      let s₁ : PredictSlices = retentionSlices (t .workspace) in
+      let ok₁ = retention-accepts times (t .workspace) long lw in
+      let x : ModelPart ofRetention i s₁ t₁ (Predicted r₁) =
+      retention-part i (p .columns) times (targets-written i (p .columns) alignSlices t a) s₁ t₁ (Predicted r₁) ok₁
+      (predict-accepted Retention (retentionInput i times) s₁ t₁ r₁ ok₁ c₁) in
+      let s₂ : PredictSlices = mobilitySlices (t₁ .workspace) in
+      let ok₂ = mobility-accepts (t₁ .workspace) l₁ in
+      let y : ModelPart ofMobility i s₂ t₂ (Predicted r₂) =
+      mobility-part i (p .columns) s₂ t₂ (Predicted r₂) ok₂
+      (predict-accepted Mobility (mobilityInput i) s₂ t₂ r₂ ok₂ c₂) in
       let cells : ℕ = peptides i * i .files in
       let first : ℕ = workspaceCells (orderOf Retention) in
       let second : ℕ = workspaceCells (orderOf Mobility) in
@@ -294,9 +328,7 @@ module _ (i : Input) (s : Slices) (p : Passed i (roomOf s)) where
       ∙ ap (λ (k : ℕ). overwritten (replicate k zero64) (s .workspace))
       {x = max second (max first cells)} {y = max cells second} (omega arith) in
       record {
-        answer =
-            ap (λ (u : PredictAnswer). Ran (outcomeOf u) (outcomeOf r₂)) (x .answer)
-            ∙ ap (λ (u : PredictAnswer). Ran (predictOutcomeOf ofRetention i) (outcomeOf u)) (y .answer);
+        answer = λ k. Ran (same-outcome r₁ _ (x .answer) k) (same-outcome r₂ _ (y .answer) k);
         slices = λ k.
             record {
               workspace = workspace-is k;

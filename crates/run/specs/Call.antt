@@ -32,13 +32,10 @@ use Rattle.embedding.specs.declared.Model.the-variants.{Retention, Mobility}
 use Rattle.rt_matrix.specs.Line.{present}
 use Rattle.rt_matrix.specs.Columns.{FileColumns, columnsOf, writtenOver, fileRoom, eachLong}
 use Rattle.regression.specs.Workspace.{workspaceCells}
-use Rattle.regression.specs.declared.FitOutcome.the-variants.{NotSolved}
 use Rattle.model_fit.specs.Input.{tableAt}
 use Rattle.models.specs.Prediction.{isSolved, inexactIn}
 use Rattle.models.specs.Call.{ModelOutputs, PredictValues, predictOutcomeTold}
 use Rattle.models.specs.declared.PredictOutcome.{PredictOutcome}
-use Rattle.models.specs.declared.PredictAnswer.{PredictAnswer}
-use Rattle.models.specs.declared.PredictAnswer.the-variants.{Predicted as Answered, Refused as Unpredicted}
 use Rattle.run.specs.Fitted.{Fitted, Predicted, RowOutcome, rowQuery, longest, fitted, outcome}
 use Rattle.run.specs.Fitted.{Part, ofRetention, ofMobility, modelOf, fitOfPart, resultOf}
 use Rattle.run.specs.declared.checks.ModelRoom.{ModelRoom}
@@ -260,11 +257,6 @@ filled i s =
       retention = filledModel ofRetention i (s .retention);
       mobility = filledModel ofMobility i (s .mobility);
     }
-
--- the outcome that an answer carries; one that is refused, which no accepted run gets, counts as not solved
-abbrev pub outcomeOf : PredictAnswer → PredictOutcome
-outcomeOf (Answered p) = p
-outcomeOf (Unpredicted n) = record { fit = NotSolved; inexact = 0 }
 
 -- an accepted call: its answer and every slice
 pub record Filled (i : Input) (s : Change Slices) (r : RunAnswer) : Type 0 where

@@ -4,16 +4,14 @@ ghost use mathlib.Core.Path.{_≡_};
 ghost use Rattle.status.specs.Status.{accepted};
 ghost use Rattle.rt_matrix.specs.Columns.{fileColumnsAt, fileColumnsOf};
 ghost use Rattle.models.specs.Call.{outputsAt, outputsOf};
-ghost use Rattle.run.specs.Call.{inputAt, inputOf, slicesAt, slicesOf, status, outcomeOf, Filled, RunCall};
+ghost use Rattle.run.specs.Call.{inputAt, inputOf, slicesAt, slicesOf, status, Filled, RunCall};
 use crate::checks::ModelRoom;
 use crate::checks::Room;
 use crate::checks::check;
-use models::PredictAnswer;
 use models::PredictOutcome;
 use models::mobility_model;
 use models::retention_model;
-use regression::FitOutcome;
-use retention_alignment::global_alignment;
+use retention_alignment::align_accepted;
 use rt_matrix::FileRoom;
 
 mod checks; // the checks, in document 01's order
@@ -27,20 +25,7 @@ pub enum RunAnswer {
     Refused(u8),
 }
 
-// The outcome of a prediction that is not refused.
-fn outcome_of(answer: PredictAnswer) -> PredictOutcome
-    ensures { λ r. ⌜ r ≡ outcomeOf answer ⌝ }
-{
-    match answer {
-        PredictAnswer::Predicted(outcome) => outcome,
-        PredictAnswer::Refused(_) => PredictOutcome {
-            fit: FitOutcome::NotSolved,
-            inexact: 0,
-        },
-    }
-}
-
-// The work of an accepted run.
+// The work of an accepted run: its parts behind their checks, so that each column is checked once.
 fn run_accepted(
     file: &[u32],
     peptide: &[u32],
@@ -89,7 +74,7 @@ fn run_accepted(
 {
     let rows = file.len();
     let peptides = masses.len();
-    let _ = global_alignment(
+    align_accepted(
         file,
         peptide,
         label,
@@ -107,7 +92,7 @@ fn run_accepted(
         intercept_exact,
         aligned,
     );
-    let retention = retention_model::predict(
+    let retention = retention_model::predict_accepted(
         peptide,
         label,
         q,
@@ -121,7 +106,7 @@ fn run_accepted(
         retention_predicted,
         retention_error,
     );
-    let mobility = mobility_model::predict(
+    let mobility = mobility_model::predict_accepted(
         peptide,
         label,
         q,
@@ -136,8 +121,8 @@ fn run_accepted(
         mobility_error,
     );
     RunAnswer::Ran {
-        retention: outcome_of(retention),
-        mobility: outcome_of(mobility),
+        retention,
+        mobility,
     }
 }
 
