@@ -9,7 +9,7 @@ use lib.Ieee.{Float, nan}
 use lib.ListN.{length, take, set, getD, length-append}
 use lib.Seq.{take-suc, take-set-le, take-suc-set, length-take-le}
 use Rattle.float.specs.Value.{isZero}
-use Rattle.matrix.specs.Nonzero.{nonzeros, nonzeroCells, Listed}
+use Rattle.matrix.specs.Nonzero.{nonzeros, nonzeroCells, Nonzeros}
 use Rattle.matrix.proofs.Nonzero.{nonzeros-append, cells-append}
 use Rattle.float.specs.Number.{number}
 use Rattle.embedding.specs.Design.{everywhere, chosen, columnCounts, counts, block}
@@ -107,5 +107,5 @@ length-counted letters = refl
 -- ---- a whole row
 
 pub row-listed : {r : ℕ} {row : List Float} {p₀ p₁ : List ℕ} {v₀ v₁ : List Float}
-    → Appended 0 row 0 r p₀ p₁ v₀ v₁ → Listed 0 row (take r p₁) (take r v₁)
+    → Appended 0 row 0 r p₀ p₁ v₀ v₁ → Nonzeros 0 row (take r p₁) (take r v₁)
 row-listed a = record { places-are = a .places-are; values-are = a .values-are }

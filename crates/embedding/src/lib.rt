@@ -4,7 +4,7 @@ ghost use mathlib.Core.Path.{_≡_};
 ghost use mathlib.Core.List.{_++_};
 ghost use Prim.Native.Nat.{_≤_, _<_, _^_};
 ghost use lib.ListN.{length, take, drop};
-ghost use Rattle.matrix.specs.Nonzero.{Listed};
+ghost use Rattle.matrix.specs.Nonzero.{Nonzeros};
 ghost use Rattle.embedding.specs.Design.{orderOf, design};
 
 mod listing;
@@ -63,7 +63,7 @@ pub fn list(
     requires { ⌜ length (now letters) < 2 ^ 32 ⌝ }
     requires { ⌜ (orderOf model ≤ length (now places)) × (orderOf model ≤ length (now values)) ⌝ }
     ensures { λ r. ⌜ r ≤ orderOf model ⌝ }
-    ensures { λ r. ⌜ Listed 0 (design model (now (letters .entry)) log mass charge)
+    ensures { λ r. ⌜ Nonzeros 0 (design model (now (letters .entry)) log mass charge)
         (take r (now (places .exit))) (take r (now (values .exit))) ⌝ }
 {
     match model {

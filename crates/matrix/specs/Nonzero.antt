@@ -17,6 +17,6 @@ nonzeroCells [] = []
 nonzeroCells (x ∷ xs) = cond (isZero x) (nonzeroCells xs) (x ∷ nonzeroCells xs)
 
 -- the places and the values of the cells that are not zero, the first cell being at place j
-pub record Listed (j : ℕ) (cells : List Float) (places : List ℕ) (values : List Float) : Type 0 where
+pub record Nonzeros (j : ℕ) (cells : List Float) (places : List ℕ) (values : List Float) : Type 0 where
   pub places-are : places ≡ nonzeros j cells
   pub values-are : values ≡ nonzeroCells cells

@@ -10,7 +10,7 @@ use lib.ListN.{length, getD, set, take, drop, length-append, length-drop}
 use lib.Seq.{take-append-add, set-at, take-at}
 use lib.Ieee.{Float}
 use Rattle.float.specs.Value.{isZero}
-use Rattle.matrix.specs.Nonzero.{nonzeros, nonzeroCells, Listed as Nonzeros}
+use Rattle.matrix.specs.Nonzero.{nonzeros, nonzeroCells, Nonzeros}
 use Rattle.matrix.proofs.Nonzero.{nonzeros-append, cells-append}
 use Rattle.feature.specs.Feature.{kept}
 

@@ -8,7 +8,7 @@ ghost use lib.ListN.{length, getD, take};
 ghost use Rattle.feature.specs.Feature.{trains};
 ghost use Rattle.status.specs.Limits.{maxLetters};
 ghost use Rattle.embedding.specs.Design.{orderOf, design};
-ghost use Rattle.matrix.specs.Nonzero.{Listed as Nonzeros};
+ghost use Rattle.matrix.specs.Nonzero.{Nonzeros};
 ghost use Rattle.regression.specs.Regression.{extended, normal, dot, sse};
 ghost use Rattle.regression.specs.Sparse.{RowStarts, addVisited, allFinite};
 ghost use Rattle.regression.specs.Workspace.{Workspace, stored, withStored, holding, fitSlices};

@@ -1,5 +1,5 @@
--- Two stored rows, those of a nonzero column and of the next one, visited together: the cells of the first row before the
--- second's column are its first cell and zeros' cells, and from there on both are visited at the same places.
+-- Two stored rows, those of a nonzero column and of the next one, visited together: the cells of the first row before
+-- the second's column are its first cell and zeros' cells, and from there on both are visited at the same places.
 use mathlib.Core.Path.{_≡_, refl, sym, ap, _∙_}
 use mathlib.Core.Bool.{true, false}
 use mathlib.Core.List.{List, [], _∷_, _++_, append-nil, append-assoc}

@@ -16,7 +16,7 @@ use Rattle.float.specs.Value.{isZero}
 use Rattle.matrix.specs.Lists.{zipped}
 use Rattle.elimination.proofs.Made.{made, made-suc, made-skip, made-zipped}
 use Rattle.regression.specs.Regression.{plusScaled}
-use Rattle.matrix.specs.Nonzero.{nonzeros, nonzeroCells, Listed}
+use Rattle.matrix.specs.Nonzero.{nonzeros, nonzeroCells, Nonzeros}
 use Rattle.matrix.proofs.Nonzero.{cells-append, as-many}
 use Rattle.regression.specs.Sparse.{plusNonzero}
 use Rattle.regression.proofs.Visited.{Next, next, none-left, nonzeros-here}
@@ -58,7 +58,7 @@ nil-of-none : {A : Type 0} (xs : List A) → length xs ≡ 0 → xs ≡ []
 nil-of-none [] e = refl
 nil-of-none (x ∷ xs) e = absurd (omega arith)
 
-module _ (j : ℕ) (rest : List Float) (places : List ℕ) (values : List Float) (g : Listed j rest places values) where
+module _ (j : ℕ) (rest : List Float) (places : List ℕ) (values : List Float) (g : Nonzeros j rest places values) where
   pub values-long : length values ≡ length places
   values-long = ap length (g .values-are) ∙ sym (as-many j rest) ∙ sym (ap length (g .places-are))
 

@@ -19,7 +19,7 @@ use Rattle.elimination.proofs.Made.{made, made-skip}
 use Rattle.elimination.proofs.Rows.{TurnIn, turn-in}
 use Rattle.regression.specs.Falling.{fallingRows, fallingStart}
 use Rattle.regression.specs.Triangle.{addTriangleBy}
-use Rattle.matrix.specs.Nonzero.{nonzeros, nonzeroCells, Listed}
+use Rattle.matrix.specs.Nonzero.{nonzeros, nonzeroCells, Nonzeros}
 use Rattle.regression.specs.Sparse.{RowStarts, NextPlace, plusNonzero, twoAdded, nonzeroColumns}
 use Rattle.regression.proofs.Falling.{falling-layout, length-falling, flat-falling, row-ends}
 use Rattle.regression.proofs.Triangle.{made-add}
@@ -175,7 +175,7 @@ module _ (ext acc₀ : List Float) (places : List ℕ) (n k : ℕ) where
         (ap (λ (i : ℕ). drop m (take i xs)) {x = n} {y = m + (n - m)} (omega arith)
         ∙ drop-take m (n - m) xs)
 
-    all-listed : Listed 0 ext (take n places) (take n values)
+    all-listed : Nonzeros 0 ext (take n places) (take n values)
     all-listed = record { places-are = g .found; values-are = g .cells }
 
     -- rows of zero columns are as they would be made anew
@@ -194,7 +194,7 @@ module _ (ext acc₀ : List Float) (places : List ℕ) (n k : ℕ) where
       pub wide : length (take (start + (length ext - j) - start) (drop start acc))
           ≡ length (take (length ext - j) (drop j ext))
       pub nonzero : isZero (getD ext j nan) ≡ false
-      pub listed : Listed j (take (length ext - j) (drop j ext)) (take (n - m) (drop m places)) (take (n - m) (drop m values))
+      pub listed : Nonzeros j (take (length ext - j) (drop j ext)) (take (n - m) (drop m places)) (take (n - m) (drop m values))
       pub next : (r : List Float) → length r ≡ length (take (start + (length ext - j) - start) (drop start acc))
           → r ≡ zipped (plusNonzero (getD ext j nan)) (take (start + (length ext - j) - start) (drop start acc))
           (take (length ext - j) (drop j ext))

@@ -9,7 +9,7 @@ use lib.Ieee.{Float, nan}
 use Rattle.float.specs.Value.{isFinite, isZero}
 use Rattle.status.specs.Checks.{every}
 use Rattle.matrix.specs.Lists.{zipped}
-use Rattle.matrix.specs.Nonzero.{nonzeros, nonzeroCells, Listed}
+use Rattle.matrix.specs.Nonzero.{nonzeros, nonzeroCells, Nonzeros}
 use Rattle.regression.specs.Regression.{plusScaled}
 use Rattle.regression.specs.Falling.{fallingStart}
 use Rattle.regression.specs.Triangle.{addTriangleBy, addTriangle}
@@ -26,21 +26,21 @@ pub record RowStarts (D : ℕ) (starts : List ℕ) : Type 0 where
 -- the places and the values of the cells of a list that are not zero, its first cell being at place j and i the next
 -- place
 pub record NextPlace (j i : ℕ) (xs : List Float) (places : List ℕ) (values : List Float) : Type 0 where
-  pub listed : Listed j xs places values
+  pub listed : Nonzeros j xs places values
   pub first : getD places 0 0 ≡ j
   pub next : getD places 1 0 ≡ i
   pub two : 2 ≤ length places
 
 -- n cells from place j on by those of them that are not zero
-pub record ListedCells (j n : ℕ) (places : List ℕ) (values : List Float) (cells : List Float) : Type 0 where
+pub record ListedCells (j n : ℕ) (places : List ℕ) (values cells : List Float) : Type 0 where
   pub wide : length cells ≡ n
-  pub listed : Listed j cells places values
+  pub listed : Nonzeros j cells places values
 
 -- an extended row of w cells, the last of them the target, by its cells that are not zero
-pub record ListedRow (w : ℕ) (target : Float) (places : List ℕ) (values : List Float) (ext : List Float) : Type 0 where
+pub record ListedRow (w : ℕ) (target : Float) (places : List ℕ) (values ext : List Float) : Type 0 where
   pub wide : length ext ≡ w
   pub some : 0 < w
-  pub listed : Listed 0 ext places values
+  pub listed : Nonzeros 0 ext places values
   pub last : getD ext (w - 1) nan ≡ target
 
 -- ---- what is added

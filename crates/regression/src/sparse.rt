@@ -12,7 +12,7 @@ ghost use Rattle.matrix.specs.Lists.{zipped};
 ghost use Rattle.status.specs.Limits.{maxOrder};
 ghost use Rattle.regression.specs.Falling.{fallingRows, fallingStart};
 ghost use Rattle.regression.specs.Triangle.{addTriangleBy};
-ghost use Rattle.matrix.specs.Nonzero.{nonzeros, Listed};
+ghost use Rattle.matrix.specs.Nonzero.{nonzeros, Nonzeros};
 ghost use Rattle.regression.specs.Sparse.{
   allFinite,
   plusNonzero,
@@ -54,7 +54,7 @@ pub(crate) fn pairs(n: usize) -> u32
 pub(crate) fn gather(ext: &[f64], places: &mut [usize], values: &mut [f64]) -> usize
     requires { ⌜ (length (now ext) ≤ length (now places)) × (length (now ext) ≤ length (now values)) ⌝ }
     ensures { λ r. ⌜ r ≡ length (nonzeros 0 (now (ext .entry))) ⌝ }
-    ensures { λ r. ⌜ Listed 0 (now (ext .entry)) (take r (now (places .exit))) (take r (now (values .exit))) ⌝ }
+    ensures { λ r. ⌜ Nonzeros 0 (now (ext .entry)) (take r (now (places .exit))) (take r (now (values .exit))) ⌝ }
 {
     let mut n = 0usize;
     let mut j = 0usize;

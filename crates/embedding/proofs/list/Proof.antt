@@ -6,7 +6,7 @@ use native.Mathlib.Omega.{arith}
 use lib.Ieee.{Float}
 use lib.ListN.{length, take}
 use denote.Ref.{now}
-use Rattle.matrix.specs.Nonzero.{Listed}
+use Rattle.matrix.specs.Nonzero.{Nonzeros}
 use Rattle.embedding.specs.declared.Model.{Model}
 use Rattle.embedding.specs.declared.Model.the-variants.{Retention, Mobility}
 use Rattle.embedding.specs.Design.{orderOf, design}
@@ -21,7 +21,7 @@ use Rattle.embedding.proofs.list.Tie as tie
 designed : {r : ℕ} {p₀ p₁ : List ℕ} {v₀ v₁ : List Float} (m k : Model) → m ≡ k → (letters : List ℕ) (log mass : Float)
     (charge : ℕ)
     → Appended 0 (design k letters log mass charge) 0 r p₀ p₁ v₀ v₁
-    → (r ≤ orderOf m) × Listed 0 (design m letters log mass charge) (take r p₁) (take r v₁)
+    → (r ≤ orderOf m) × Nonzeros 0 (design m letters log mass charge) (take r p₁) (take r v₁)
 designed m k e letters log mass charge a =
     rw e (omega (arith, a .few, totals k letters log mass charge .columns), row-listed a)
 

@@ -1,5 +1,5 @@
--- `regression::add_row_listed` meets its contract: the sample is added to the stored part, which is lent to `add_listed`
--- and comes back.
+-- `regression::add_row_listed` meets its contract: the sample is added to the stored part, which is lent to
+-- `add_listed` and comes back.
 use mathlib.Core.Path.{_≡_, sym, ap, _∙_}
 use mathlib.Core.Bool.{true}
 use mathlib.Core.List.{List}

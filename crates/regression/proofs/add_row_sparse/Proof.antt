@@ -1,5 +1,5 @@
--- `regression::add_row_sparse` meets its contract: a sample that is not finite goes to `add_row`, and of another the cells
--- that are not zero are listed and go to `add_row_listed`.
+-- `regression::add_row_sparse` meets its contract: a sample that is not finite goes to `add_row`, and of another the
+-- cells that are not zero are listed and go to `add_row_listed`.
 use mathlib.Core.Path.{_≡_, refl, sym, ap, _∙_}
 use mathlib.Core.Bool.{true, false}
 use mathlib.Core.List.{List}
@@ -107,14 +107,18 @@ shared-slice-read-add-row-listed : tie.Need-shared-slice-read-add-row-listed
 shared-slice-read-add-row-listed c = search needs
 
 slice-reshare-prefix-add-row-listed : tie.Need-slice-reshare-prefix-add-row-listed
-slice-reshare-prefix-add-row-listed c = let f = few (c .before .before .before .before .before) in omega (arith, f .0, f .1, f .2)
+slice-reshare-prefix-add-row-listed c =
+    let f = few (c .before .before .before .before .before) in
+    omega (arith, f .0, f .1, f .2)
 
 slice-aggregate-add-row-listed : tie.Need-slice-aggregate-add-row-listed
 slice-aggregate-add-row-listed c =
     let o = c .before .before .before .before .before .before in sym (length-take-le (n o) (places o) (few o .0))
 
 array-share-prefix-values : tie.Need-array-share-prefix-values
-array-share-prefix-values c = let f = few (c .before .before .before .before .before .before) in omega (arith, f .0, f .1, f .2)
+array-share-prefix-values c =
+    let f = few (c .before .before .before .before .before .before) in
+    omega (arith, f .0, f .1, f .2)
 
 slice-aggregate-add-row-listed-2 : tie.Need-slice-aggregate-add-row-listed-2
 slice-aggregate-add-row-listed-2 c =

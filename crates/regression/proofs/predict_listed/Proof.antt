@@ -1,5 +1,5 @@
--- `regression::predict_listed` meets its contract. The loop's invariant: whatever the row that is listed, the sum so far
--- with the products of the columns from u on is the whole sum, and the places that are left are those from u on.
+-- `regression::predict_listed` meets its contract. The loop's invariant: whatever the row that is listed, the sum so
+-- far with the products of the columns from u on is the whole sum, and the places that are left are those from u on.
 use mathlib.Core.Path.{_≡_, refl, sym, ap, _∙_}
 use mathlib.Core.List.{List, [], zipWith}
 use Prim.Native.Nat.{ℕ, suc, _+_, _-_, _≤_, _<_}

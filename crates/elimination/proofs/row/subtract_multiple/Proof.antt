@@ -1,5 +1,5 @@
--- `elimination::row::subtract_multiple` meets its contract: where the cells before j stay, the part that was lent is the
--- rest of the row, and else the row is lent.
+-- `elimination::row::subtract_multiple` meets its contract: where the cells before j stay, the part that was lent is
+-- the rest of the row, and else the row is lent.
 use mathlib.Core.Path.{_≡_, sym, _∙_}
 use mathlib.Core.Bool.{Bool, true, _&&_}
 use mathlib.Core.List.{List}

@@ -41,7 +41,9 @@ two c =
     omega (arith, c .before .before .before .before .before .before .before .before .before .pre .0 .0)
 
 add-list-cell : tie.Need-add-list-cell
-add-list-cell c = let h = below (c .before) in omega (arith, c .before .before .before .before .before .before .before .pre .0 .1)
+add-list-cell c =
+    let h = below (c .before) in
+    omega (arith, c .before .before .before .before .before .before .before .pre .0 .1)
 
 list-cell-requires : tie.Need-list-cell-requires
 list-cell-requires c κs = search needs
@@ -67,7 +69,9 @@ column-requires-2 : tie.Need-column-requires-2
 column-requires-2 c κs = search needs
 
 add-list-cell-2 : tie.Need-add-list-cell-2
-add-list-cell-2 c = let h = below (c .before .before .before .before) in omega (arith, c .before .before .before .before .before .before .before .before .before .before .pre .0 .1)
+add-list-cell-2 c =
+    let h = below (c .before .before .before .before) in
+    omega (arith, c .before .before .before .before .before .before .before .before .before .before .pre .0 .1)
 
 list-cell-requires-2 : tie.Need-list-cell-requires-2
 list-cell-requires-2 c κs = search needs
@@ -114,10 +118,14 @@ low-below c =
     ⊎-elim (λ w. (omega (arith, w .1), omega (arith, w .2))) (λ w. (omega (arith, w .1), omega (arith, w .2))) (c .if4 .came)
 
 add-list-both : tie.Need-add-list-both
-add-list-both c = let h = low-below (c .before) in omega (arith, c .before .before .before .before .before .before .before .before .before .before .before .before .pre .0 .1)
+add-list-both c =
+    let h = low-below (c .before) in
+    omega (arith, c .before .before .before .before .before .before .before .before .before .before .before .before .pre .0 .1)
 
 add-list-both-2 : tie.Need-add-list-both-2
-add-list-both-2 c = let h = low-below (c .before .before) in omega (arith, c .before .before .before .before .before .before .before .before .before .before .before .before .before .pre .0 .1)
+add-list-both-2 c =
+    let h = low-below (c .before .before) in
+    omega (arith, c .before .before .before .before .before .before .before .before .before .before .before .before .before .pre .0 .1)
 
 list-both-requires : tie.Need-list-both-requires
 list-both-requires c κs = search needs

@@ -1,5 +1,5 @@
--- `model_fit::training::add_sample` meets its contract: a sample that is not finite is written out, and another is added by
--- its cells that are not zero.
+-- `model_fit::training::add_sample` meets its contract: a sample that is not finite is written out, and another is
+-- added by its cells that are not zero.
 use mathlib.Core.Path.{_≡_, sym, ap, _∙_}
 use mathlib.Core.List.{List}
 use Prim.Native.Nat.{ℕ, _+_, _-_, _≤_}

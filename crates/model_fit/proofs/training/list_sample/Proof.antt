@@ -1,5 +1,5 @@
--- `model_fit::training::list_sample` meets its contract: the design row's cells are listed, and the target is put behind
--- them and counts where it is not zero.
+-- `model_fit::training::list_sample` meets its contract: the design row's cells are listed, and the target is put
+-- behind them and counts where it is not zero.
 use mathlib.Core.Path.{_≡_, sym, ap, _∙_}
 use mathlib.Core.List.{List, [], _∷_, _++_}
 use Prim.Native.Nat.{ℕ, _+_, _<_}

@@ -1,5 +1,5 @@
--- `model_fit::training::predict_peptide` meets its contract: where a coefficient is not finite the row is written out, and
--- else its cells that are not zero are listed.
+-- `model_fit::training::predict_peptide` meets its contract: where a coefficient is not finite the row is written
+-- out, and else its cells that are not zero are listed.
 use mathlib.Core.Path.{_≡_, sym, _∙_}
 use mathlib.Core.List.{List}
 use Prim.Native.Nat.{ℕ, _≤_}

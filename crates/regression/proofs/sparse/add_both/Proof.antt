@@ -133,37 +133,70 @@ mul-v : tie.Need-mul-v Inv-loop μ-loop
 mul-v c = let n = within (c .before) in let r = room (c .before) in omega (arith, n .0, n .1, n .2, r .0, r .1)
 
 shared-slice-read-v : tie.Need-shared-slice-read-v Inv-loop μ-loop
-shared-slice-read-v c = let n = within (c .before .before) in let r = room (c .before .before) in omega (arith, n .0, n .1, n .2, r .0, r .1)
+shared-slice-read-v c =
+    let n = within (c .before .before) in
+    let r = room (c .before .before) in
+    omega (arith, n .0, n .1, n .2, r .0, r .1)
 
 mul-part : tie.Need-mul-part Inv-loop μ-loop
-mul-part c = let n = within (c .before .before) in let r = room (c .before .before) in omega (arith, n .0, n .1, n .2, r .0, r .1)
+mul-part c =
+    let n = within (c .before .before) in
+    let r = room (c .before .before) in
+    omega (arith, n .0, n .1, n .2, r .0, r .1)
 
 slice-read-part : tie.Need-slice-read-part Inv-loop μ-loop
-slice-read-part c = let n = within (c .before .before .before) in let r = room (c .before .before .before) in omega (arith, n .0, n .1, n .2, r .0, r .1)
+slice-read-part c =
+    let n = within (c .before .before .before) in
+    let r = room (c .before .before .before) in
+    omega (arith, n .0, n .1, n .2, r .0, r .1)
 
 mul-part-2 : tie.Need-mul-part-2 Inv-loop μ-loop
-mul-part-2 c = let n = within (c .before .before .before) in let r = room (c .before .before .before) in omega (arith, n .0, n .1, n .2, r .0, r .1)
+mul-part-2 c =
+    let n = within (c .before .before .before) in
+    let r = room (c .before .before .before) in
+    omega (arith, n .0, n .1, n .2, r .0, r .1)
 
 slice-write-part : tie.Need-slice-write-part Inv-loop μ-loop
-slice-write-part c = let n = within (c .before .before .before) in let r = room (c .before .before .before) in omega (arith, n .0, n .1, n .2, r .0, r .1)
+slice-write-part c =
+    let n = within (c .before .before .before) in
+    let r = room (c .before .before .before) in
+    omega (arith, n .0, n .1, n .2, r .0, r .1)
 
 add-part : tie.Need-add-part Inv-loop μ-loop
-add-part c = let n = within (c .before .before .before) in let r = room (c .before .before .before) in omega (arith, n .0, n .1, n .2, r .0, r .1)
+add-part c =
+    let n = within (c .before .before .before) in
+    let r = room (c .before .before .before) in
+    omega (arith, n .0, n .1, n .2, r .0, r .1)
 
 mul-part-3 : tie.Need-mul-part-3 Inv-loop μ-loop
-mul-part-3 c = let n = within (c .before .before .before) in let r = room (c .before .before .before) in omega (arith, n .0, n .1, n .2, r .0, r .1)
+mul-part-3 c =
+    let n = within (c .before .before .before) in
+    let r = room (c .before .before .before) in
+    omega (arith, n .0, n .1, n .2, r .0, r .1)
 
 slice-read-part-2 : tie.Need-slice-read-part-2 Inv-loop μ-loop
-slice-read-part-2 c = let n = within (c .before .before .before .before) in let r = room (c .before .before .before .before) in simp length-set (omega (arith, n .0, n .1, n .2, r .0, r .1))
+slice-read-part-2 c =
+    let n = within (c .before .before .before .before) in
+    let r = room (c .before .before .before .before) in
+    simp length-set (omega (arith, n .0, n .1, n .2, r .0, r .1))
 
 add-part-2 : tie.Need-add-part-2 Inv-loop μ-loop
-add-part-2 c = let n = within (c .before .before .before .before) in let r = room (c .before .before .before .before) in omega (arith, n .0, n .1, n .2, r .0, r .1)
+add-part-2 c =
+    let n = within (c .before .before .before .before) in
+    let r = room (c .before .before .before .before) in
+    omega (arith, n .0, n .1, n .2, r .0, r .1)
 
 mul-part-4 : tie.Need-mul-part-4 Inv-loop μ-loop
-mul-part-4 c = let n = within (c .before .before .before .before) in let r = room (c .before .before .before .before) in omega (arith, n .0, n .1, n .2, r .0, r .1)
+mul-part-4 c =
+    let n = within (c .before .before .before .before) in
+    let r = room (c .before .before .before .before) in
+    omega (arith, n .0, n .1, n .2, r .0, r .1)
 
 slice-write-part-2 : tie.Need-slice-write-part-2 Inv-loop μ-loop
-slice-write-part-2 c = let n = within (c .before .before .before .before) in let r = room (c .before .before .before .before) in simp length-set (omega (arith, n .0, n .1, n .2, r .0, r .1))
+slice-write-part-2 c =
+    let n = within (c .before .before .before .before) in
+    let r = room (c .before .before .before .before) in
+    simp length-set (omega (arith, n .0, n .1, n .2, r .0, r .1))
 
 add-p : tie.Need-add-p Inv-loop μ-loop
 add-p c = search needs

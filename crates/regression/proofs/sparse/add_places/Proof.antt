@@ -1,5 +1,5 @@
--- `regression::sparse::add_places` meets its contract. The loop's invariant: the first u cells are made anew (`made`), as
--- if all of them had been visited, and the places that are left are those of the cells from u on.
+-- `regression::sparse::add_places` meets its contract. The loop's invariant: the first u cells are made anew
+-- (`made`), as if all of them had been visited, and the places that are left are those of the cells from u on.
 use mathlib.Core.Path.{_≡_, refl, sym, ap, _∙_}
 use mathlib.Core.List.{List}
 use Prim.Native.Nat.{ℕ, suc, _-_, _≤_, _<_}

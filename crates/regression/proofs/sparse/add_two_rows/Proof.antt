@@ -92,49 +92,73 @@ sub-lead : tie.Need-sub-lead
 sub-lead c = let n = bounds (c .before .before .before) in omega (arith, n .0, n .1, n .2, n .3, n .4, n .5)
 
 shared-slice-read-x : tie.Need-shared-slice-read-x
-shared-slice-read-x c = let n = bounds (c .before .before .before .before) in omega (arith, n .0, n .1, n .2, n .3, n .4, n .5)
+shared-slice-read-x c =
+    let n = bounds (c .before .before .before .before) in
+    omega (arith, n .0, n .1, n .2, n .3, n .4, n .5)
 
 slice-read-part : tie.Need-slice-read-part
-slice-read-part c = let n = bounds (c .before .before .before .before .before) in omega (arith, n .0, n .1, n .2, n .3, n .4, n .5)
+slice-read-part c =
+    let n = bounds (c .before .before .before .before .before) in
+    omega (arith, n .0, n .1, n .2, n .3, n .4, n .5)
 
 slice-write-part : tie.Need-slice-write-part
-slice-write-part c = let n = bounds (c .before .before .before .before .before) in omega (arith, n .0, n .1, n .2, n .3, n .4, n .5)
+slice-write-part c =
+    let n = bounds (c .before .before .before .before .before) in
+    omega (arith, n .0, n .1, n .2, n .3, n .4, n .5)
 
 mul-add-both : tie.Need-mul-add-both
-mul-add-both c = let n = bounds (c .before .before .before .before .before) in omega (arith, n .0, n .1, n .2, n .3, n .4, n .5)
+mul-add-both c =
+    let n = bounds (c .before .before .before .before .before) in
+    omega (arith, n .0, n .1, n .2, n .3, n .4, n .5)
 
 sub-add-both : tie.Need-sub-add-both
-sub-add-both c = let n = bounds (c .before .before .before .before .before) in simp length-set (omega (arith, n .0, n .1, n .2, n .3, n .4, n .5))
+sub-add-both c =
+    let n = bounds (c .before .before .before .before .before) in
+    simp length-set (omega (arith, n .0, n .1, n .2, n .3, n .4, n .5))
 
 part-add-both-start : tie.Need-part-add-both-start
-part-add-both-start c = let n = bounds (c .before .before .before .before .before) in simp length-set (omega (arith, n .0, n .1, n .2, n .3, n .4, n .5))
+part-add-both-start c =
+    let n = bounds (c .before .before .before .before .before) in
+    simp length-set (omega (arith, n .0, n .1, n .2, n .3, n .4, n .5))
 
 part-add-both-end : tie.Need-part-add-both-end
 part-add-both-end c = search needs
 
 shared-slice-read-add-both : tie.Need-shared-slice-read-add-both
-shared-slice-read-add-both c = let n = bounds (c .before .before .before .before .before .before .before) in omega (arith, n .0, n .1, n .2, n .3, n .4, n .5)
+shared-slice-read-add-both c =
+    let n = bounds (c .before .before .before .before .before .before .before) in
+    omega (arith, n .0, n .1, n .2, n .3, n .4, n .5)
 
 sub-add-both-2 : tie.Need-sub-add-both-2
-sub-add-both-2 c = let n = bounds (c .before .before .before .before .before .before .before) in omega (arith, n .0, n .1, n .2, n .3, n .4, n .5)
+sub-add-both-2 c =
+    let n = bounds (c .before .before .before .before .before .before .before) in
+    omega (arith, n .0, n .1, n .2, n .3, n .4, n .5)
 
 part-add-both-start-2 : tie.Need-part-add-both-start-2
-part-add-both-start-2 c = let n = bounds (c .before .before .before .before .before .before .before) in omega (arith, n .0, n .1, n .2, n .3, n .4, n .5)
+part-add-both-start-2 c =
+    let n = bounds (c .before .before .before .before .before .before .before) in
+    omega (arith, n .0, n .1, n .2, n .3, n .4, n .5)
 
 part-add-both-end-2 : tie.Need-part-add-both-end-2
 part-add-both-end-2 c = search needs
 
 sub-add-both-3 : tie.Need-sub-add-both-3
-sub-add-both-3 c = let n = bounds (c .before .before .before .before .before .before .before .before) in omega (arith, n .0, n .1, n .2, n .3, n .4, n .5)
+sub-add-both-3 c =
+    let n = bounds (c .before .before .before .before .before .before .before .before) in
+    omega (arith, n .0, n .1, n .2, n .3, n .4, n .5)
 
 part-add-both-start-3 : tie.Need-part-add-both-start-3
-part-add-both-start-3 c = let n = bounds (c .before .before .before .before .before .before .before .before) in omega (arith, n .0, n .1, n .2, n .3, n .4, n .5)
+part-add-both-start-3 c =
+    let n = bounds (c .before .before .before .before .before .before .before .before) in
+    omega (arith, n .0, n .1, n .2, n .3, n .4, n .5)
 
 part-add-both-end-3 : tie.Need-part-add-both-end-3
 part-add-both-end-3 c = search needs
 
 sub-add-both-4 : tie.Need-sub-add-both-4
-sub-add-both-4 c = let n = bounds (c .before .before .before .before .before .before .before .before .before) in omega (arith, n .0, n .1, n .2, n .3, n .4, n .5)
+sub-add-both-4 c =
+    let n = bounds (c .before .before .before .before .before .before .before .before .before) in
+    omega (arith, n .0, n .1, n .2, n .3, n .4, n .5)
 
 add-both-requires : tie.Need-add-both-requires
 add-both-requires c κs =

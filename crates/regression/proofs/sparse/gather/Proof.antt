@@ -14,7 +14,7 @@ use denote.Ref.{now}
 use borrow.Author.Tests.{not-true, not-false}
 use Rattle.float.specs.Value.{isZero}
 use Rattle.float.proofs.Zeros.{is-zero}
-use Rattle.matrix.specs.Nonzero.{nonzeros, nonzeroCells, Listed}
+use Rattle.matrix.specs.Nonzero.{nonzeros, nonzeroCells, Nonzeros}
 use Rattle.matrix.proofs.Nonzero.{cells-append}
 use Rattle.regression.proofs.Visited.{nonzeros-snoc}
 use borrow.Author.Needs.{needs}
@@ -25,7 +25,7 @@ abbrev Inv-loop : tie.InvT-loop
 Inv-loop ext places₀ values₀ n₀ j₀ places values n j =
     (j ≤ length ext)
     × (n ≡ length (nonzeros 0 (take j ext)))
-    × Listed 0 (take j ext) (take n places) (take n values)
+    × Nonzeros 0 (take j ext) (take n places) (take n values)
     × ((length places ≡ length places₀) × (length values ≡ length values₀))
     × (n ≤ j)
 
