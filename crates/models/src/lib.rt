@@ -4,8 +4,8 @@
 use regression::FitOutcome;
 
 mod prediction; // predictions and errors
-pub mod retention_model; // fit, predict
-pub mod mobility_model; // fit, predict
+pub mod retention_model; // fit, predict, predict_accepted
+pub mod mobility_model; // fit, predict, predict_accepted
 
 // What a fit answers: its outcome, or the status of the check that refused the call.
 pub enum FitAnswer {

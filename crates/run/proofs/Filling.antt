@@ -36,8 +36,7 @@ use Rattle.models.specs.declared.PredictAnswer.the-variants.{Predicted}
 use Rattle.models.proofs.Calls.{predict-accepted}
 use Rattle.run.specs.Fitted.{RowOutcome, ofRetention, ofMobility, rowQuery, target, fitted, outcome}
 use Rattle.run.specs.Call.{modelRoom, roomOf}
-use Rattle.run.specs.Call.{Input, Slices, rows, peptides, fittedBy, outcomes, errorsOf}
-use Rattle.run.specs.Call.{inexactOf}
+use Rattle.run.specs.Call.{Input, Slices, rows, peptides, fittedBy, outcomes, errorsOf, inexactOf}
 use Rattle.run.specs.Call.{answerOf, toldBy, filled, Filled, slicesAfter, RunCall, status}
 use Rattle.run.specs.Parts.{alignInput, retentionInput, mobilityInput}
 use Rattle.run.specs.declared.RunAnswer.{RunAnswer}

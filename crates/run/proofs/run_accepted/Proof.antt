@@ -44,7 +44,8 @@ start c =
 
 abbrev aligned-by : tie.After-slice-known24 → tie.After-align-accepted
 aligned-by c =
-    c .before .before .before .before .before .before .before .before .before .before .before .before .before .before .before .before .before .before
+    c .before .before .before .before .before .before .before .before .before .before .before .before .before .before
+    .before .before .before .before
 
 abbrev before-retention : tie.After-predict-accepted-arg5 → tie.After-slice-known24
 before-retention c = c .before .before .before .before .before
@@ -136,7 +137,8 @@ same-length-8 : tie.Need-same-length-8
 same-length-8 c = alignment (mobility-by c .before) .align-accepted .kept .1 .1 .1 .1 .1 .1 .1 .1 .1 .1 .1 .1 .1 .1 .0
 
 same-length-9 : tie.Need-same-length-9
-same-length-9 c = alignment (mobility-by c .before) .align-accepted .kept .1 .1 .1 .1 .1 .1 .1 .1 .1 .1 .1 .1 .1 .1 .1 .0
+same-length-9 c =
+    alignment (mobility-by c .before) .align-accepted .kept .1 .1 .1 .1 .1 .1 .1 .1 .1 .1 .1 .1 .1 .1 .1 .0
 
 same-length-10 : tie.Need-same-length-10
 same-length-10 c = retention-by (mobility-by c .before) .predict-accepted .kept .1 .1 .1 .1 .1 .1 .1 .1 .1 .0
