@@ -112,7 +112,9 @@ share-zero n (suc c) h l m =
     ∙ sym (number-some (suc c) (zero-lt-suc c) m)
   where
     small : 2 ^ 53 ≤ suc c * 2 ^ low binary64
-    small = le-trans (le-trans (lit≤ tt) (le-of-eq (sym (one-mul (2 ^ low binary64))))) (mul-le-mul-right {m = 1} {n = suc c} (2 ^ low binary64) (omega arith))
+    small =
+        le-trans (le-trans (lit≤ tt) (le-of-eq (sym (one-mul (2 ^ low binary64)))))
+        (mul-le-mul-right {m = 1} {n = suc c} (2 ^ low binary64) (omega arith))
 
 -- ---- a row of shares
 
@@ -128,7 +130,8 @@ module _ (n : ℕ) (h : 0 < n) (l : n ≤ 2 ^ 53) where
       (ap (λ (k : ℕ). nonzeros k (map (share n) cs)) {x = suc (at + j)} {y = at + suc j} (omega arith)
       ∙ share-places at (suc j) cs (λ k. b (suc k))))
     where
-      by : (z : Bool) → nonzeros (suc (at + j)) (map (share n) cs) ≡ map (λ k. at + k) (nonzeros (suc j) (map number cs))
+      by : (z : Bool) → nonzeros (suc (at + j)) (map (share n) cs)
+          ≡ map (λ k. at + k) (nonzeros (suc j) (map number cs))
           → cond z (nonzeros (suc (at + j)) (map (share n) cs)) ((at + j) ∷ nonzeros (suc (at + j)) (map (share n) cs))
           ≡ map (λ k. at + k) (cond z (nonzeros (suc j) (map number cs)) (j ∷ nonzeros (suc j) (map number cs)))
       by true e = e
@@ -141,8 +144,10 @@ module _ (n : ℕ) (h : 0 < n) (l : n ≤ 2 ^ 53) where
   share-cells (c ∷ cs) b =
       rw (share-zero n c h l (b 0)) (by (isZero (number c)) (share-cells cs (λ k. b (suc k))))
     where
-      by : (z : Bool) → nonzeroCells (map (share n) cs) ≡ map (λ x. div binary64 x (number n)) (nonzeroCells (map number cs))
+      by : (z : Bool) → nonzeroCells (map (share n) cs)
+          ≡ map (λ x. div binary64 x (number n)) (nonzeroCells (map number cs))
           → cond z (nonzeroCells (map (share n) cs)) (share n c ∷ nonzeroCells (map (share n) cs))
-          ≡ map (λ x. div binary64 x (number n)) (cond z (nonzeroCells (map number cs)) (number c ∷ nonzeroCells (map number cs)))
+          ≡ map (λ x. div binary64 x (number n))
+          (cond z (nonzeroCells (map number cs)) (number c ∷ nonzeroCells (map number cs)))
       by true e = e
       by false e = ap (λ (t : List Float). share n c ∷ t) e

@@ -2,7 +2,7 @@
 use mathlib.Core.Path.{_≡_, refl, sym, ap, _∙_, subst}
 use mathlib.Core.Bool.{false}
 use mathlib.Core.List.{List, [], _∷_, _++_, map}
-use Prim.Native.Nat.{ℕ, zero, suc, _+_, _≤_, _<_}
+use Prim.Native.Nat.{ℕ, zero, suc, _+_, _<_}
 use native.Mathlib.Nat.{le-of-suc-le-suc, not-suc-le-zero}
 use native.Mathlib.Omega.{arith}
 use lib.Dec.{lit<, lit≤}
@@ -35,7 +35,8 @@ zeros m = replicate m 0
 zero-first : (at : ℕ) (cs : List ℕ) (ps : List ℕ) (vs : List Float) → Shown (suc at) (map number cs) ps vs
     → Shown at (map number (0 ∷ cs)) ps vs
 unfolding nonzeros nonzeroCells
-zero-first at cs ps vs s = record { places-are = rw number-zero (s .places-are); values-are = rw number-zero (s .values-are) }
+zero-first at cs ps vs s =
+    record { places-are = rw number-zero (s .places-are); values-are = rw number-zero (s .values-are) }
 
 some-first : (at c : ℕ) (cs : List ℕ) (ps : List ℕ) (vs : List Float) → isZero (number c) ≡ false
     → Shown (suc at) (map number cs) ps vs → Shown at (map number (c ∷ cs)) (at ∷ ps) (number c ∷ vs)

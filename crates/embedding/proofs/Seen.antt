@@ -74,7 +74,8 @@ seen-next m f xs row i k d w is h b l =
     let long : length row ≡ m = ap length (is ∙ append-nil (map number cs)) ∙ length-map cs number ∙ n in
     let x : add binary64 (getD row k d) (number 1) ≡ number (getD cs k 0 + 1) =
     ap (λ (r : List Float). add binary64 (getD r k d) (number 1)) is ∙ counted cs [] k d (omega arith) (omega arith) in
-    ap (bitOr (seenIn row)) (ap (λ (t : ℕ). t % 2 ^ 32) (one-mul (2 ^ k)) ∙ mod-eq-of-lt (pow-lt {i = k} {j = 32} (omega arith)))
+    ap (bitOr (seenIn row))
+    (ap (λ (t : ℕ). t % 2 ^ 32) (one-mul (2 ^ k)) ∙ mod-eq-of-lt (pow-lt {i = k} {j = 32} (omega arith)))
     ∙ sym
     (seen-set row k (add binary64 (getD row k d) (number 1)) (omega arith)
     (ap isZero x ∙ number-some (getD cs k 0 + 1) (omega arith) (omega arith)))
@@ -87,7 +88,8 @@ none-seen j (x ∷ xs) e = by (isZero x) e (none-seen (suc j) xs)
   where
     by : (b : Bool) → cond b 0 1 + 2 * seenIn xs ≡ 0
         → (seenIn xs ≡ 0 → (nonzeros (suc j) xs ≡ []) × (nonzeroCells xs ≡ []))
-        → (cond b (nonzeros (suc j) xs) (j ∷ nonzeros (suc j) xs) ≡ []) × (cond b (nonzeroCells xs) (x ∷ nonzeroCells xs) ≡ [])
+        → (cond b (nonzeros (suc j) xs) (j ∷ nonzeros (suc j) xs) ≡ [])
+        × (cond b (nonzeroCells xs) (x ∷ nonzeroCells xs) ≡ [])
     by true e more = more (omega arith)
     by false e more = absurd (omega arith)
 
@@ -118,7 +120,8 @@ lowest j (x ∷ xs) h = by (isZero x) refl (lowest (suc j) xs)
           places =
               rw z
               (l .places
-              ∙ ap₂ (λ (a b : ℕ). a ∷ nonzeros b (drop (suc (l .p)) xs)) {x = suc j + l .p} {y = j + suc (l .p)} (omega arith) (omega arith));
+              ∙ ap₂ (λ (a b : ℕ). a ∷ nonzeros b (drop (suc (l .p)) xs)) {x = suc j + l .p} {y = j + suc (l .p)}
+              (omega arith) (omega arith));
           cells = rw z (l .cells);
         }
     by false z more = record {
@@ -149,7 +152,8 @@ lowest-cleared t i =
     let less : (2 * t + 1) * m - 1 ≡ t * 2 ^ suc i + (m - 1) = omega arith in
     let low : bitAnd (1 * m) (m - 1) ≡ 0 = and-shifted 1 i (m - 1) (omega arith) in
     rw (less, whole, and-block (suc i) t t m (m - 1) (omega arith) (omega arith), and-self t)
-    (ap (λ (k : ℕ). t * 2 ^ suc i + k) (ap (λ (k : ℕ). bitAnd k (m - 1)) (sym (one-mul m)) ∙ low) ∙ add-zero (t * 2 ^ suc i))
+    (ap (λ (k : ℕ). t * 2 ^ suc i + k) (ap (λ (k : ℕ). bitAnd k (m - 1)) (sym (one-mul m)) ∙ low)
+    ∙ add-zero (t * 2 ^ suc i))
 
 -- ---- reading the digits off
 
@@ -189,8 +193,10 @@ module _ (counts : List Float) (places : List ℕ) (values : List Float) (n left
       record {
         few = omega (arith, l .count, nonzeros-few 0 counts);
         count = omega (arith, l .count);
-        places-are = sym (l .places-are ∙ ap (λ (t : List ℕ). take n places ++ t) (none .0) ∙ append-nil (take n places));
-        values-are = sym (l .values-are ∙ ap (λ (t : List Float). take n values ++ t) (none .1) ∙ append-nil (take n values));
+        places-are =
+            sym (l .places-are ∙ ap (λ (t : List ℕ). take n places ++ t) (none .0) ∙ append-nil (take n places));
+        values-are =
+            sym (l .values-are ∙ ap (λ (t : List Float). take n values ++ t) (none .1) ∙ append-nil (take n values));
       }
 
   -- else the lowest is the first cell's that is left
@@ -238,8 +244,8 @@ module _ (counts : List Float) (places : List ℕ) (values : List Float) (n left
         rw (add-one n, take-suc-set old n x h) (sym (append-snoc (take n old) x after))
 
     pub one-less : n < length places → n < length values
-        → Left counts (set places n (trailingZeros 32 left)) (set values n (getD counts (trailingZeros 32 left) nan)) (n + 1)
-        (bitAnd left (left - 1))
+        → Left counts (set places n (trailingZeros 32 left)) (set values n (getD counts (trailingZeros 32 left) nan))
+        (n + 1) (bitAnd left (left - 1))
     one-less h k = rw lowest-place (record {
       j = next;
       digits =
@@ -254,7 +260,9 @@ module _ (counts : List Float) (places : List ℕ) (values : List Float) (n left
       values-are =
           l .values-are
           ∙ ap (λ (t : List Float). take n values ++ t)
-          (first .cells ∙ ap₂ (λ (x : Float) (t : List Float). x ∷ nonzeroCells t) (getD-drop (l .j) counts (first .p) nan) further)
+          (first .cells
+          ∙ ap₂ (λ (x : Float) (t : List Float). x ∷ nonzeroCells t)
+          (getD-drop (l .j) counts (first .p) nan) further)
           ∙ more (nonzeroCells (drop next counts)) values (getD counts place nan) k;
       count =
           omega

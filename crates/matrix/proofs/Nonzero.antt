@@ -16,7 +16,8 @@ nonzeros-append j [] ys = ap (λ (k : ℕ). nonzeros k ys) {x = j} {y = j + 0} (
 nonzeros-append j (x ∷ xs) ys =
     by (isZero x)
     (nonzeros-append (suc j) xs ys
-    ∙ ap (λ (k : ℕ). nonzeros (suc j) xs ++ nonzeros k ys) {x = suc j + length xs} {y = j + suc (length xs)} (omega arith))
+    ∙ ap (λ (k : ℕ). nonzeros (suc j) xs ++ nonzeros k ys) {x = suc j + length xs} {y = j + suc (length xs)}
+    (omega arith))
   where
     by : (b : Bool) → nonzeros (suc j) (xs ++ ys) ≡ nonzeros (suc j) xs ++ nonzeros (j + suc (length xs)) ys
         → cond b (nonzeros (suc j) (xs ++ ys)) (j ∷ nonzeros (suc j) (xs ++ ys))

@@ -194,7 +194,8 @@ module _ (ext acc₀ : List Float) (places : List ℕ) (n k : ℕ) where
       pub wide : length (take (start + (length ext - j) - start) (drop start acc))
           ≡ length (take (length ext - j) (drop j ext))
       pub nonzero : isZero (getD ext j nan) ≡ false
-      pub listed : Nonzeros j (take (length ext - j) (drop j ext)) (take (n - m) (drop m places)) (take (n - m) (drop m values))
+      pub listed : Nonzeros j (take (length ext - j) (drop j ext)) (take (n - m) (drop m places))
+          (take (n - m) (drop m values))
       pub next : (r : List Float) → length r ≡ length (take (start + (length ext - j) - start) (drop start acc))
           → r ≡ zipped (plusNonzero (getD ext j nan)) (take (start + (length ext - j) - start) (drop start acc))
           (take (length ext - j) (drop j ext))
@@ -220,13 +221,14 @@ module _ (ext acc₀ : List Float) (places : List ℕ) (n k : ℕ) where
         let after : drop (suc m) (take n places) ≡ nonzeros (suc j) (drop (suc j) ext) =
         there .rest ∙ ap (λ (i : ℕ). nonzeros (0 + suc i) (drop (suc i) ext)) same
         ∙ ap (λ (i : ℕ). nonzeros i (drop (suc j) ext)) {x = 0 + suc j} {y = suc j} (omega arith) in
-        let rest : take (w - j) (drop j ext) ≡ drop j ext = take-all (w - j) (drop j ext) (simp length-drop (omega arith)) in
+        let rest : take (w - j) (drop j ext) ≡ drop j ext =
+        take-all (w - j) (drop j ext) (simp length-drop (omega arith)) in
         let made-to : fallingRows w d acc ≡ made (scaled ext) j old =
         at .3
         ∙ passed (at .0) j (omega (arith, there .from)) (λ i a c e. there .zeros i a (omega arith)) in
         let t : TurnIn d (fallingRows w d) (fallingStart w) (scaled ext) acc₀ acc start (w - j) j =
-        turn-in d (fallingRows w d) (fallingStart w) (λ i. w - i) (falling-layout w d) (scaled ext) acc₀ acc start (w - j) j
-        (omega arith, first j b, made-to, inv .1) b (g .whole) refl in
+        turn-in d (fallingRows w d) (fallingStart w) (λ i. w - i) (falling-layout w d) (scaled ext) acc₀ acc start
+        (w - j) j (omega arith, first j b, made-to, inv .1) b (g .whole) refl in
         record {
           row = b;
           fits = t .fits;
@@ -249,7 +251,8 @@ module _ (ext acc₀ : List Float) (places : List ℕ) (n k : ℕ) where
                 done .3,
                 (
                   suc j,
-                  rw (add-one m) (after ∙ ap (λ (i : ℕ). nonzeros i (drop (suc j) ext)) {x = suc j} {y = 0 + suc j} (omega arith)),
+                  rw (add-one m)
+                      (after ∙ ap (λ (i : ℕ). nonzeros i (drop (suc j) ext)) {x = suc j} {y = 0 + suc j} (omega arith)),
                   omega arith,
                   done .2 ∙ ap (λ (i : ℕ). made (scaled ext) i old) (add-one j),
                 ),
@@ -262,7 +265,8 @@ module _ (ext acc₀ : List Float) (places : List ℕ) (n k : ℕ) where
       pub rising : j < i
       pub apart : start + (length ext - j) ≤ below
       pub fits : below + (length ext - i) ≤ length acc
-      pub two : NextPlace j i (take (length ext - j) (drop j ext)) (take (n - m) (drop m places)) (take (n - m) (drop m values))
+      pub two : NextPlace j i (take (length ext - j) (drop j ext)) (take (n - m) (drop m places))
+          (take (n - m) (drop m values))
       pub low : length (take (length ext - j) (drop j ext)) ≤ below - start
       pub long : length (take (below + (length ext - i) - start) (drop start acc))
           ≡ below - start + (length (take (length ext - j) (drop j ext)) - (i - j))
@@ -328,7 +332,8 @@ module _ (ext acc₀ : List Float) (places : List ℕ) (n k : ℕ) where
           }
 
       rising-is : j < i
-      rising-is = omega (arith, lead-some j i xs (take (n - m) (drop m places)) (take (n - m) (drop m values)) next-place)
+      rising-is =
+          omega (arith, lead-some j i xs (take (n - m) (drop m places)) (take (n - m) (drop m values)) next-place)
 
       apart-is : start + (w - j) ≤ below
       apart-is =
@@ -376,7 +381,8 @@ module _ (ext acc₀ : List Float) (places : List ℕ) (n k : ℕ) where
           let ea : w - j ≡ a = omega arith in
           let ec : w - i ≡ c = omega arith in
           let en : n₁ ≡ a = xs-long ∙ ea in
-          let at : below ≡ start + a + b = second-start start below (w - j) apart-is ∙ ap (λ (p : ℕ). start + p + b) ea in
+          let at : below ≡ start + a + b =
+          second-start start below (w - j) apart-is ∙ ap (λ (p : ℕ). start + p + b) ea in
           let far : below - start ≡ a + b = second-far start below (w - j) apart-is ∙ ap (λ (p : ℕ). p + b) ea in
           let all : below + (w - i) - start ≡ a + b + c =
           second-end start below (w - j) apart-is (w - i) ∙ ap₂ (λ (p q : ℕ). p + q) far ec in

@@ -2,14 +2,14 @@
 -- columns are visited. An extended row is a design row and then the target. Definitions only.
 use mathlib.Core.Path.{_≡_}
 use mathlib.Core.Bool.{Bool, _||_, cond}
-use mathlib.Core.List.{List, [], _∷_, _++_}
-use Prim.Native.Nat.{ℕ, suc, _+_, _-_, _*_, _/_, _≤_, _<_}
+use mathlib.Core.List.{List, _++_}
+use Prim.Native.Nat.{ℕ, _+_, _-_, _*_, _/_, _≤_, _<_}
 use lib.ListN.{length, getD, take, drop}
 use lib.Ieee.{Float, nan}
 use Rattle.float.specs.Value.{isFinite, isZero}
 use Rattle.status.specs.Checks.{every}
 use Rattle.matrix.specs.Lists.{zipped}
-use Rattle.matrix.specs.Nonzero.{nonzeros, nonzeroCells, Nonzeros}
+use Rattle.matrix.specs.Nonzero.{nonzeros, Nonzeros}
 use Rattle.regression.specs.Regression.{plusScaled}
 use Rattle.regression.specs.Falling.{fallingStart}
 use Rattle.regression.specs.Triangle.{addTriangleBy, addTriangle}

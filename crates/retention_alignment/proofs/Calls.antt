@@ -12,7 +12,6 @@ use Rattle.float.specs.Number.{zero64}
 use Rattle.matrix.proofs.Lists.{overwrite-front}
 use Rattle.status.specs.Checks.{every, allBelow}
 use Rattle.status.specs.Status.{accepted}
-use Rattle.status.specs.Told.{gives, toldFor}
 use Rattle.status.proofs.Laws.{Limits, limits, length-at, and-true}
 use Rattle.status.proofs.First.{passed-at}
 use Rattle.rt_matrix.specs.Columns.{EachOf, EachFrom, fileRoom, eachLong, inFront}
@@ -21,7 +20,6 @@ use Rattle.retention_alignment.specs.Call.{
   Input,
   Slices,
   roomOf,
-  longEnough,
   checks,
   statusBy,
   status,

@@ -42,7 +42,13 @@ use Rattle.run.specs.Parts.{alignInput, retentionInput, mobilityInput}
 use Rattle.run.specs.declared.RunAnswer.{RunAnswer}
 use Rattle.run.specs.declared.RunAnswer.the-variants.{Ran, Refused}
 use Rattle.run.proofs.Rows.{retention-queries, mobility-queries, samples-of, mobility-samples}
-use Rattle.run.proofs.Rows.{mobility-predictions, mobility-counts, predictionsFor, predictions-written, errors-written}
+use Rattle.run.proofs.Rows.{
+  mobility-predictions,
+  mobility-counts,
+  predictionsFor,
+  predictions-written,
+  errors-written,
+}
 use Rattle.run.proofs.Accepted.{ColumnsIn, Passed, align-accepts, model-accepts, model-room}
 use Rattle.run.proofs.Parts.{fields, marks, targets, AlignPart, align-part, ModelPart, model-part}
 

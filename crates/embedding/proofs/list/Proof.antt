@@ -31,8 +31,13 @@ enum-told c = search needs
 list-requires : tie.Need-list-requires
 list-requires c κs =
     let s = c .before .before .before .before .before .before .before in
-    let e = c .before .before .enum-told .given .1 in
-    (s .pre .0, (subst (λ (m : Model). orderOf m ≤ length (now (s .args .places))) e (s .pre .1 .0), subst (λ (m : Model). orderOf m ≤ length (now (s .args .values))) e (s .pre .1 .1)))
+    let e = c .before .before .enum-told .given .1 in (
+      s .pre .0,
+      (
+        subst (λ (m : Model). orderOf m ≤ length (now (s .args .places))) e (s .pre .1 .0),
+        subst (λ (m : Model). orderOf m ≤ length (now (s .args .values))) e (s .pre .1 .1),
+      ),
+    )
 
 enum-told-2 : tie.Need-enum-told-2
 enum-told-2 c = search needs
@@ -40,8 +45,13 @@ enum-told-2 c = search needs
 list-requires-2 : tie.Need-list-requires-2
 list-requires-2 c κs =
     let s = c .before .before .before .before .before .before .before in
-    let e = c .before .before .enum-told2 .given .1 in
-    (s .pre .0, (subst (λ (m : Model). orderOf m ≤ length (now (s .args .places))) e (s .pre .1 .0), subst (λ (m : Model). orderOf m ≤ length (now (s .args .values))) e (s .pre .1 .1)))
+    let e = c .before .before .enum-told2 .given .1 in (
+      s .pre .0,
+      (
+        subst (λ (m : Model). orderOf m ≤ length (now (s .args .places))) e (s .pre .1 .0),
+        subst (λ (m : Model). orderOf m ≤ length (now (s .args .values))) e (s .pre .1 .1),
+      ),
+    )
 
 same-length : tie.Need-same-length
 same-length c = search needs
@@ -53,7 +63,8 @@ returns : tie.Need-returns
 unfolding design
 returns c =
     let a = c .before .before .before .before .before .before .before .before .before .before .before .before .args in
-    designed (a .model) Retention (c .before .before .before .before .before .before .before .enum-told .given .1) (now (a .letters)) (a .log) (a .mass) (a .charge) (c .before .before .before .before .list .ensures)
+    designed (a .model) Retention (c .before .before .before .before .before .before .before .enum-told .given .1)
+    (now (a .letters)) (a .log) (a .mass) (a .charge) (c .before .before .before .before .list .ensures)
 
 same-length-3 : tie.Need-same-length-3
 same-length-3 c = search needs
@@ -65,7 +76,8 @@ returns-2 : tie.Need-returns-2
 unfolding design
 returns-2 c =
     let a = c .before .before .before .before .before .before .before .before .before .before .before .before .args in
-    designed (a .model) Mobility (c .before .before .before .before .before .before .before .enum-told2 .given .1) (now (a .letters)) (a .log) (a .mass) (a .charge) (c .before .before .before .before .list2 .ensures)
+    designed (a .model) Mobility (c .before .before .before .before .before .before .before .enum-told2 .given .1)
+    (now (a .letters)) (a .log) (a .mass) (a .charge) (c .before .before .before .before .list2 .ensures)
 
 pub list-spec : {M : Type 1} → statement M
 list-spec =

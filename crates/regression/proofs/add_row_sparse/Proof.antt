@@ -1,6 +1,6 @@
 -- `regression::add_row_sparse` meets its contract: a sample that is not finite goes to `add_row`, and of another the
 -- cells that are not zero are listed and go to `add_row_listed`.
-use mathlib.Core.Path.{_≡_, refl, sym, ap, _∙_}
+use mathlib.Core.Path.{_≡_, sym, ap, _∙_}
 use mathlib.Core.Bool.{true, false}
 use mathlib.Core.List.{List}
 use Prim.Native.Nat.{ℕ, _+_, _-_, _≤_}
@@ -113,7 +113,8 @@ slice-reshare-prefix-add-row-listed c =
 
 slice-aggregate-add-row-listed : tie.Need-slice-aggregate-add-row-listed
 slice-aggregate-add-row-listed c =
-    let o = c .before .before .before .before .before .before in sym (length-take-le (n o) (places o) (few o .0))
+    let o = c .before .before .before .before .before .before in
+    sym (length-take-le (n o) (places o) (few o .0))
 
 array-share-prefix-values : tie.Need-array-share-prefix-values
 array-share-prefix-values c =
@@ -122,7 +123,8 @@ array-share-prefix-values c =
 
 slice-aggregate-add-row-listed-2 : tie.Need-slice-aggregate-add-row-listed-2
 slice-aggregate-add-row-listed-2 c =
-    let o = c .before .before .before .before .before .before .before in sym (length-take-le (n o) (values o) (omega (arith, few o .1, few o .2)))
+    let o = c .before .before .before .before .before .before .before in
+    sym (length-take-le (n o) (values o) (omega (arith, few o .1, few o .2)))
 
 add-row-listed-requires : tie.Need-add-row-listed-requires
 add-row-listed-requires c κs =

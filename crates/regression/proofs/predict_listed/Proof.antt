@@ -1,7 +1,7 @@
 -- `regression::predict_listed` meets its contract. The loop's invariant: whatever the row that is listed, the sum so
 -- far with the products of the columns from u on is the whole sum, and the places that are left are those from u on.
 use mathlib.Core.Path.{_≡_, refl, sym, ap, _∙_}
-use mathlib.Core.List.{List, [], zipWith}
+use mathlib.Core.List.{List, zipWith}
 use Prim.Native.Nat.{ℕ, suc, _+_, _-_, _≤_, _<_}
 use native.Mathlib.Omega.{arith}
 use lib.ListN.{length, getD, drop, drop-of-length-le}
@@ -75,8 +75,11 @@ module _ (c : tie.In-loop Inv-loop μ-loop) where
 loop-holds : tie.Need-loop-holds Inv-loop μ-loop
 unfolding ofBits dot
 loop-holds c =
-    let a = c .before .before .before .args in
-    (search needs, sum-starts, λ row g. (0, left-all 0 row (now (a .places)) (g .listed .places-are), search needs, refl))
+    let a = c .before .before .before .args in (
+      search needs,
+      sum-starts,
+      λ row g. (0, left-all 0 row (now (a .places)) (g .listed .places-are), search needs, refl),
+    )
 
 mul-sum : tie.Need-mul-sum Inv-loop μ-loop
 mul-sum c = let n = within c in omega (arith, n .0, n .1)

@@ -195,19 +195,22 @@ same-length-6 c =
 same-length-7 : tie.Need-same-length-7
 same-length-7 c =
     let w = worked c .align in
-    lent-back _ (w .last .1 .1 .1 .1 .1 .1 .1 .1 .1 .1 .1 .1 .1 .0) _ (w .kept .1 .1 .1 .1 .1 .1 .1 .1 .1 .1 .1 .1 .1 .0)
+    lent-back _ (w .last .1 .1 .1 .1 .1 .1 .1 .1 .1 .1 .1 .1 .1 .0) _
+    (w .kept .1 .1 .1 .1 .1 .1 .1 .1 .1 .1 .1 .1 .1 .0)
     (checks (counted c .before) .records .slopeExact)
 
 same-length-8 : tie.Need-same-length-8
 same-length-8 c =
     let w = worked c .align in
-    lent-back _ (w .last .1 .1 .1 .1 .1 .1 .1 .1 .1 .1 .1 .1 .1 .1 .0) _ (w .kept .1 .1 .1 .1 .1 .1 .1 .1 .1 .1 .1 .1 .1 .1 .0)
+    lent-back _ (w .last .1 .1 .1 .1 .1 .1 .1 .1 .1 .1 .1 .1 .1 .1 .0) _
+    (w .kept .1 .1 .1 .1 .1 .1 .1 .1 .1 .1 .1 .1 .1 .1 .0)
     (checks (counted c .before) .records .interceptExact)
 
 same-length-9 : tie.Need-same-length-9
 same-length-9 c =
     let w = worked c .align in
-    lent-back _ (w .last .1 .1 .1 .1 .1 .1 .1 .1 .1 .1 .1 .1 .1 .1 .1 .0) _ (w .kept .1 .1 .1 .1 .1 .1 .1 .1 .1 .1 .1 .1 .1 .1 .1 .0)
+    lent-back _ (w .last .1 .1 .1 .1 .1 .1 .1 .1 .1 .1 .1 .1 .1 .1 .1 .0) _
+    (w .kept .1 .1 .1 .1 .1 .1 .1 .1 .1 .1 .1 .1 .1 .1 .1 .0)
     (checks (counted c .before) .aligned)
 
 returns : tie.Need-returns

@@ -71,7 +71,8 @@ returns c =
     let is =
     r .ensures
     ∙ ap (rowSolved (l .loop .i) 0)
-    (left-part (s .args .n) (s .args .w) (l .loop .i) (l .loop .at) (now (s .args .cells)) t (s .pre .left) (l .loop .inv .1)) in
+    (left-part (s .args .n) (s .args .w) (l .loop .i) (l .loop .at) (now (s .args .cells)) t (s .pre .left)
+    (l .loop .inv .1)) in
     test-fails (r .result) (rowSolved (l .loop .i) 0 (take (s .args .n) (rowOf rows (l .loop .i))))
     (solvedFrom (s .args .n) (suc (l .loop .i)) (drop (suc (l .loop .i)) rows))
     (solvedFrom (s .args .n) (l .loop .i) (drop (l .loop .i) rows)) (leftSolved (s .args .n) rows) is
@@ -101,8 +102,16 @@ loop-again c =
     let is =
     r .ensures
     ∙ ap (rowSolved (l .loop .i) 0)
-    (left-part (s .args .n) (s .args .w) (l .loop .i) (l .loop .at) (now (s .args .cells)) t (s .pre .left) (l .loop .inv .1)) in
-    (omega arith, omega arith, rw add-one (test-holds (r .result) (rowSolved (l .loop .i) 0 (take (s .args .n) (rowOf rows (l .loop .i)))) (solvedFrom (s .args .n) (suc (l .loop .i)) (drop (suc (l .loop .i)) rows)) (solvedFrom (s .args .n) (l .loop .i) (drop (l .loop .i) rows)) (leftSolved (s .args .n) rows) is (left-solved-row (s .args .n) (l .loop .i) rows h) (l .loop .inv .2) (c .if1 .left)))
+    (left-part (s .args .n) (s .args .w) (l .loop .i) (l .loop .at) (now (s .args .cells)) t (s .pre .left)
+    (l .loop .inv .1)) in (
+      omega arith,
+      omega arith,
+      rw add-one
+          (test-holds (r .result) (rowSolved (l .loop .i) 0 (take (s .args .n) (rowOf rows (l .loop .i))))
+          (solvedFrom (s .args .n) (suc (l .loop .i)) (drop (suc (l .loop .i)) rows))
+          (solvedFrom (s .args .n) (l .loop .i) (drop (l .loop .i) rows)) (leftSolved (s .args .n) rows) is
+          (left-solved-row (s .args .n) (l .loop .i) rows h) (l .loop .inv .2) (c .if1 .left)),
+    )
 
 returns-2 : tie.Need-returns-2 Inv-loop μ-loop
 unfolding solvedFrom

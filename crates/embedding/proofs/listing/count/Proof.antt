@@ -47,8 +47,9 @@ column-requires c κs = search needs
 -- the column of the letter at hand
 below : (c : tie.After-column Inv-loop μ-loop) → c .column .result < 22
 below c =
-    omega
-    (arith, c .column .ensures, column-below (getD (now (c .before .before .before .before .before .before .args .letters)) (c .before .before .before .loop .i) 0))
+    let l = c .before .before .before in
+    let s = l .before .before .before in
+    omega (arith, c .column .ensures, column-below (getD (now (s .args .letters)) (l .loop .i) 0))
 
 mul-counts : tie.Need-mul-counts Inv-loop μ-loop
 mul-counts c = let h = below c in omega arith
@@ -81,8 +82,14 @@ loop-again c =
     let s = c .before .before .before .before .before .before .before in
     let p = now (s .args .letters) in
     let k = c .before .column .result in
-    let h : k < 22 = below (c .before) in
-    (omega arith, cells-next 22 columnOf p (l .counts) [] (l .i) (l .inv .1) k _ (omega arith) (s .pre .0) (c .before .column .ensures) h, ap (λ (t : ℕ). bitOr t (1 * 2 ^ k % 2 ^ 32)) (l .inv .2) ∙ seen-next 22 columnOf p (l .counts) (l .i) k _ (omega arith) (l .inv .1) (omega arith) (s .pre .0) h, simp length-set (l .inv .3))
+    let h : k < 22 = below (c .before) in (
+      omega arith,
+      cells-next 22 columnOf p (l .counts) [] (l .i) (l .inv .1) k _ (omega arith) (s .pre .0)
+          (c .before .column .ensures) h,
+      ap (λ (t : ℕ). bitOr t (1 * 2 ^ k % 2 ^ 32)) (l .inv .2)
+          ∙ seen-next 22 columnOf p (l .counts) (l .i) k _ (omega arith) (l .inv .1) (omega arith) (s .pre .0) h,
+      simp length-set (l .inv .3),
+    )
 
 same-length : tie.Need-same-length Inv-loop μ-loop
 same-length c = search needs
@@ -94,7 +101,8 @@ returns c =
     let p = now (c .before .before .before .before .args .letters) in (
       l .inv .1
           ∙ append-nil (map number (tallied (range 0 22) (map columnOf (take (l .i) p))))
-          ∙ ap (λ (xs : List ℕ). map number (tallied (range 0 22) (map columnOf xs))) (take-all (l .i) p (c .loop-test .left)),
+          ∙ ap (λ (xs : List ℕ). map number (tallied (range 0 22) (map columnOf xs)))
+          (take-all (l .i) p (c .loop-test .left)),
       l .inv .2,
     )
 

@@ -58,13 +58,19 @@ two-stored {A} l n x y h =
     let k : length (set l n x) ≡ length l = length-set l n x in
     rw e
     (take-suc-set (set l n x) (n + 1) y (omega arith)
-    ∙ ap (λ (t : List A). t ++ y ∷ []) (ap (λ (m : ℕ). take m (set l n x)) (add-one n) ∙ take-suc-set l n x (omega arith))
+    ∙ ap (λ (t : List A). t ++ y ∷ [])
+    (ap (λ (m : ℕ). take m (set l n x)) (add-one n) ∙ take-suc-set l n x (omega arith))
     ∙ append-assoc (take n l) (x ∷ []) (y ∷ []))
 
 returns : tie.Need-returns
 returns c =
-    let a = c .args in
-    (refl, (two-stored (now (a .places)) (a .n) (a .first) (a .second) (c .pre .0), rw one (two-stored (now (a .values)) (a .n) _ _ (c .pre .1))))
+    let a = c .args in (
+      refl,
+      (
+        two-stored (now (a .places)) (a .n) (a .first) (a .second) (c .pre .0),
+        rw one (two-stored (now (a .values)) (a .n) _ _ (c .pre .1)),
+      ),
+    )
 
 pub list-both-spec : {M : Type 1} → statement M
 list-both-spec =

@@ -46,7 +46,8 @@ loop-again c =
     let l = at .loop in
     let cells = now (at .before .before .before .before .args .cells) in
     let call = c .before .before .before .before .list-cell in
-    let h : l .k < length cells = c .before .before .before .before .before .before .before .before .loop-test .taken in (
+    let h : l .k < length cells =
+    c .before .before .before .before .before .before .before .before .loop-test .taken in (
       omega arith,
       next-listed cells h (l .inv .1) (call .ensures),
       search needs,

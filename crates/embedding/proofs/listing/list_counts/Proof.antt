@@ -36,11 +36,19 @@ module _ (c : tie.In-loop Inv-loop μ-loop) where
 
   below : trailingZeros 32 (c .before .loop .left) < 22
   below =
-      omega
-      (arith, c .before .before .pre .0 .1, place-inside list _ _ _ _ (c .before .loop .inv .0) (c .loop-test .taken) most)
+      omega (
+        arith,
+        c .before .before .pre .0 .1,
+        place-inside list _ _ _ _ (c .before .loop .inv .0) (c .loop-test .taken) most,
+      )
 
   few : c .before .loop .n < 22
-  few = omega (arith, c .before .before .pre .0 .1, room list _ _ _ _ (c .before .loop .inv .0) (c .loop-test .taken) most)
+  few =
+      omega (
+        arith,
+        c .before .before .pre .0 .1,
+        room list _ _ _ _ (c .before .loop .inv .0) (c .loop-test .taken) most,
+      )
 
 cast-k : tie.Need-cast-k Inv-loop μ-loop
 cast-k c = omega (arith, below c)
@@ -78,8 +86,12 @@ loop-less c =
 loop-again : tie.Need-loop-again Inv-loop μ-loop
 loop-again c =
     let at = c .before .before in
-    let f = few (c .before) in
-    (one-less (list (c .before)) _ _ _ _ (at .loop .inv .0) (c .before .loop-test .taken) (most (c .before)) (omega arith) (omega arith), simp length-set (at .loop .inv .1), simp length-set (at .loop .inv .2))
+    let f = few (c .before) in (
+      one-less (list (c .before)) _ _ _ _ (at .loop .inv .0) (c .before .loop-test .taken) (most (c .before))
+          (omega arith) (omega arith),
+      simp length-set (at .loop .inv .1),
+      simp length-set (at .loop .inv .2),
+    )
 
 same-length : tie.Need-same-length Inv-loop μ-loop
 same-length c = search needs

@@ -49,8 +49,15 @@ module _ {A : Type 0} (f : A → A) (d : A) (old list : List A) (n p : ℕ) (h :
 loop-holds : tie.Need-loop-holds Inv-loop μ-loop
 loop-holds c =
     let a = c .args in
-    let e : a .n + 0 ≡ a .n = omega arith in
-    (search needs, refl, refl, rw e (sym (append-nil (take (a .n) (now (a .places))))), rw e (sym (append-nil (take (a .n) (now (a .values))))), refl, refl)
+    let e : a .n + 0 ≡ a .n = omega arith in (
+      search needs,
+      refl,
+      refl,
+      rw e (sym (append-nil (take (a .n) (now (a .places))))),
+      rw e (sym (append-nil (take (a .n) (now (a .values))))),
+      refl,
+      refl,
+    )
 
 mul-places : tie.Need-mul-places Inv-loop μ-loop
 mul-places c = search needs
@@ -63,7 +70,9 @@ add-places c =
     let l = c .before .before .loop in
     let s = c .before .before .before in
     let a = s .args in
-    let e = here (λ k. 22 + k) 0 (now (a .places)) (l .places) (a .n) (l .p) (c .before .loop-test .taken) (s .pre .0 .0) (l .inv .5) (l .inv .1) (l .inv .3) in
+    let e =
+    here (λ k. 22 + k) 0 (now (a .places)) (l .places) (a .n) (l .p) (c .before .loop-test .taken) (s .pre .0 .0)
+    (l .inv .5) (l .inv .1) (l .inv .3) in
     omega (arith, e, s .pre .1 (l .p) (c .before .loop-test .taken))
 
 add-places-2 : tie.Need-add-places-2 Inv-loop μ-loop

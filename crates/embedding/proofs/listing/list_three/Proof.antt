@@ -28,8 +28,11 @@ same-length-2 c = search needs
 
 returns : tie.Need-returns
 returns c =
-    both-listed (c .before .before .before .before .before .before .before .before .before .before .before .before .before .before .before .before .before .before .list-cell .ensures) (omega arith)
-    (both-listed (c .before .before .before .before .before .before .before .before .before .before .before .list-cell2 .ensures) (omega arith) (c .before .before .before .before .list-cell3 .ensures))
+    let third = c .before .before .before .before in
+    let second = third .before .before .before .before .before .before .before in
+    let first = second .before .before .before .before .before .before .before in
+    both-listed (first .list-cell .ensures) (omega arith)
+    (both-listed (second .list-cell2 .ensures) (omega arith) (third .list-cell3 .ensures))
 
 pub list-three-spec : {M : Type 1} → statement M
 list-three-spec =

@@ -1,7 +1,6 @@
 -- `embedding::mobility_model::list_classes` meets its contract: the sum of each class of the table, in the table's
 -- order.
 use mathlib.Core.Path.{refl}
-use native.Mathlib.Omega.{arith}
 use Rattle.embedding.specs.Classes.{classSums}
 use Rattle.embedding.proofs.Appending.{both-listed, listed-as}
 use borrow.Author.Needs.{needs}
@@ -59,14 +58,17 @@ same-length-2 c = search needs
 returns : tie.Need-returns
 unfolding classSums
 returns c =
-    let e1 = c .before .before .before .before .before .before .before .before .before .before .before .before .before .before .before .before .before .before .before .before .before .before .before .before .class-count .ensures in
-    let e2 = c .before .before .before .before .before .before .before .before .before .before .before .before .before .before .before .before .before .before .before .before .before .before .class-count2 .ensures in
-    let e3 = c .before .before .before .before .before .before .before .before .before .before .before .before .before .before .before .before .before .before .before .before .class-count3 .ensures in
-    let e4 = c .before .before .before .before .before .before .before .before .before .before .before .class-count4 .ensures in
-    let e5 = c .before .before .before .before .before .before .before .before .before .class-count5 .ensures in
-    let e6 = c .before .before .before .before .before .before .before .class-count6 .ensures in
+    let second = c .before .before .before .before in
+    let first =
+    second .before .before .before .before .before .before .before .before .before .before .before .before .before in
+    let e1 = first .before .before .before .before .before .before .before .class-count .ensures in
+    let e2 = first .before .before .before .before .before .class-count2 .ensures in
+    let e3 = first .before .before .before .class-count3 .ensures in
+    let e4 = second .before .before .before .before .before .before .before .class-count4 .ensures in
+    let e5 = second .before .before .before .before .before .class-count5 .ensures in
+    let e6 = second .before .before .before .class-count6 .ensures in
     listed-as (rw (e1, e2, e3, e4, e5, e6))
-    (both-listed (c .before .before .before .before .before .before .before .before .before .before .before .before .before .before .before .before .before .list-three .ensures) refl (c .before .before .before .before .list-three2 .ensures))
+    (both-listed (first .list-three .ensures) refl (second .list-three2 .ensures))
 
 pub list-classes-spec : {M : Type 1} → statement M
 list-classes-spec =

@@ -15,8 +15,10 @@ count-requires c κs = search needs
 
 list-counts-requires : tie.Need-list-counts-requires
 list-counts-requires c κs =
-    let e = c .before .before .before .before .before .count .ensures in
-    ((e .1, ap length (e .0) ∙ length-counted (now (c .before .before .before .before .before .before .before .before .before .before .before .args .letters))), (search needs, search needs))
+    let counted = c .before .before .before .before .before in
+    let s = counted .before .before .before .before .before .before in
+    let e = counted .count .ensures in
+    ((e .1, ap length (e .0) ∙ length-counted (now (s .args .letters))), (search needs, search needs))
 
 cast-u32-to-f64 : tie.Need-cast-u32-to-f64
 cast-u32-to-f64 c = search needs
@@ -26,11 +28,18 @@ u32-to-f64-requires c κs = search needs
 
 list-shares-requires : tie.Need-list-shares-requires
 list-shares-requires c κs =
-    let s = c .before .before .before .before .before .before .before .before .before .before .before .before .before .before .before .before .before .before .before in
+    let first = c .before .before .before .before .before .before .before in
+    let counted = first .before .before .before .before .before .before in
+    let s = counted .before .before .before .before .before .before in
     let l = length-counted (now (s .args .letters)) in
-    let k = ap length (c .before .before .before .before .before .before .before .before .before .before .before .before .before .count .ensures .0) in
-    let call = c .before .before .before .before .before .before .before .list-counts in
-    ((omega (arith, s .pre, call .ensures .few, call .kept .1 .1 .0), omega (arith, s .pre, call .ensures .few, call .kept .1 .1 .1 .0)), λ i h. omega (arith, listed-below (call .ensures) i h))
+    let k = ap length (counted .count .ensures .0) in
+    let call = first .list-counts in (
+      (
+        omega (arith, s .pre, call .ensures .few, call .kept .1 .1 .0),
+        omega (arith, s .pre, call .ensures .few, call .kept .1 .1 .1 .0),
+      ),
+      λ i h. omega (arith, listed-below (call .ensures) i h),
+    )
 
 same-length : tie.Need-same-length
 same-length c = search needs
@@ -43,10 +52,17 @@ same-length-3 c = search needs
 
 returns : tie.Need-returns
 returns c =
-    let s = c .before .before .before .before .before .before .before .before .before .before .before .before .before .before .before .before .before .before .before .before .before .before .before .before in
-    let call = c .before .before .before .before .list-shares .ensures in
-    let e = c .before .before .before .before .before .before .before .before .before .before .before .before .before .before .before .before .before .before .count .ensures .0 in
-    (e, shares-listed (now (s .args .letters)) (s .pre .0 .0) (s .pre .0 .1) (listed-as e (c .before .before .before .before .before .before .before .before .before .before .before .before .list-counts .ensures)) (call .0) (call .1 .0) (rw (c .before .before .before .before .before .before .before .u32-to-f64 .ensures) at (call .1 .1)))
+    let second = c .before .before .before .before in
+    let first = second .before .before .before .before .before .before .before .before in
+    let counted = first .before .before .before .before .before .before in
+    let s = counted .before .before .before .before .before .before in
+    let call = second .list-shares .ensures in
+    let e = counted .count .ensures .0 in (
+      e,
+      shares-listed (now (s .args .letters)) (s .pre .0 .0) (s .pre .0 .1)
+          (listed-as e (first .list-counts .ensures)) (call .0) (call .1 .0)
+          (rw (second .before .before .before .u32-to-f64 .ensures) at (call .1 .1)),
+    )
 
 pub list-composition-spec : {M : Type 1} → statement M
 list-composition-spec =

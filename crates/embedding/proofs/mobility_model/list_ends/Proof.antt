@@ -25,11 +25,16 @@ c-terminal-requires c κs = search needs
 
 list-two-requires-2 : tie.Need-list-two-requires-2
 list-two-requires-2 c κs =
-    let h = length-c Mobility (now (c .before .before .before .before .before .before .before .before .before .before .before .before .before .before .args .letters)) in
-    let two = c .before .before .before .before .before .before .before .list-two in
+    let second = c .before .before .before .before .before .before .before in
+    let first = second .before .before .before in
+    let s = first .before .before .before .before in
+    let h = length-c Mobility (now (s .args .letters)) in
+    let two = second .list-two in
     let m = two .ensures .few in
-    let w = length-counted (now (c .before .before .before .before .before .before .before .before .before .before .n-terminal .result)) in
-    ((omega (arith, ap length (c .before .before .c-terminal .ensures)), search needs), (omega (arith, two .kept .1 .1 .0), omega (arith, two .kept .1 .1 .1 .0)))
+    let w = length-counted (now (first .n-terminal .result)) in (
+      (omega (arith, ap length (c .before .before .c-terminal .ensures)), search needs),
+      (omega (arith, two .kept .1 .1 .0), omega (arith, two .kept .1 .1 .1 .0)),
+    )
 
 same-length : tie.Need-same-length
 same-length c = search needs
@@ -39,9 +44,15 @@ same-length-2 c = search needs
 
 returns : tie.Need-returns
 returns c =
-    let l = now (c .before .before .before .before .before .before .before .before .before .before .before .before .before .before .before .before .before .before .before .args .letters) in
-    both-listed (part-listed nTerminal l (c .before .before .before .before .before .before .before .before .before .before .before .before .before .before .before .n-terminal .ensures) (c .before .before .before .before .before .before .before .before .before .before .before .before .list-two .ensures)) (omega (arith, length-block nTerminal l))
-    (part-listed (cTerminal Mobility) l (c .before .before .before .before .before .before .before .c-terminal .ensures) (c .before .before .before .before .list-two2 .ensures))
+    let third = c .before .before .before .before in
+    let last = third .before .before .before in
+    let second = last .before .before .before .before .before in
+    let first = second .before .before .before in
+    let s = first .before .before .before .before in
+    let l = now (s .args .letters) in
+    both-listed (part-listed nTerminal l (first .n-terminal .ensures) (second .list-two .ensures))
+    (omega (arith, length-block nTerminal l))
+    (part-listed (cTerminal Mobility) l (last .c-terminal .ensures) (third .list-two2 .ensures))
 
 pub list-ends-spec : {M : Type 1} → statement M
 list-ends-spec =

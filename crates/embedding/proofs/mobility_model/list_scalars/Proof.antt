@@ -32,9 +32,13 @@ same-length-2 c = search needs
 returns : tie.Need-returns
 unfolding mobilityScalars
 returns c =
-    listed-as
-    (rw (c .before .before .before .before .before .before .before .before .before .before .before .before .before .before .before .before .u32-to-f64 .ensures, c .before .before .before .before .before .before .before .before .before .before .before .before .before .before .before .widen .ensures, c .before .before .before .before .before .before .before .u32-to-f642 .ensures, one, thousand))
-    (both-listed (c .before .before .before .before .before .before .before .before .before .before .before .before .list-three .ensures) refl (c .before .before .before .before .list-three2 .ensures))
+    let second = c .before .before .before .before in
+    let first = second .before .before .before .before .before .before .before .before in
+    let wide = first .before .before .before in
+    let e1 = wide .before .u32-to-f64 .ensures in
+    let e2 = second .before .before .before .u32-to-f642 .ensures in
+    listed-as (rw (e1, wide .widen .ensures, e2, one, thousand))
+    (both-listed (first .list-three .ensures) refl (second .list-three2 .ensures))
 
 pub list-scalars-spec : {M : Type 1} → statement M
 list-scalars-spec =

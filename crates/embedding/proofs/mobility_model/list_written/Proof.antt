@@ -29,8 +29,9 @@ same-length-2 c = search needs
 
 returns : tie.Need-returns
 returns c =
-    let a = c .before .before .before .before .before .before .before .before .before .before .before .before .before .before .args in
-    listed-as (c .before .before .before .before .before .before .before .before .before .embed .ensures ∙ append-nil (mobilityRow (now (a .letters)) (a .mass) (a .charge)))
+    let row = c .before .before .before .before .before .before .before .before .before in
+    let a = row .before .before .before .before .before .args in
+    listed-as (row .embed .ensures ∙ append-nil (mobilityRow (now (a .letters)) (a .mass) (a .charge)))
     (c .before .before .before .before .list-cells .ensures)
 
 pub list-written-spec : {M : Type 1} → statement M

@@ -30,23 +30,33 @@ n-terminal-requires c κs = search needs
 
 list-two-requires : tie.Need-list-two-requires
 list-two-requires c κs =
-    let l = now (c .before .before .before .before .before .before .before .before .before .before .before .before .before .before .before .before .before .args .letters) in
-    let h = length-n l in
-    ((omega (arith, ap length (c .before .before .n-terminal .ensures)), search needs), (omega arith, omega arith))
+    let first = c .before .before in
+    let s =
+    first .before .before .before .before .before .before .before .before .before .before .before .before .before
+    .before .before in
+    let h = length-n (now (s .args .letters)) in
+    ((omega (arith, ap length (first .n-terminal .ensures)), search needs), (omega arith, omega arith))
 
 c-terminal-requires : tie.Need-c-terminal-requires
 c-terminal-requires c κs = search needs
 
 list-two-requires-2 : tie.Need-list-two-requires-2
 list-two-requires-2 c κs =
-    let l = now (c .before .before .before .before .before .before .before .before .before .before .before .before .before .before .before .before .before .before .before .before .before .before .before .before .before .args .letters) in
+    let second = c .before .before .before .before .before .before .before in
+    let first = second .before .before .before in
+    let all = first .before .before .before .before .before in
+    let counted = all .before .before .before .before .before in
+    let s = counted .before .before .before .before .before in
+    let l = now (s .args .letters) in
     let h = length-c Retention l in
-    let k = ap length (c .before .before .before .before .before .before .before .before .before .before .before .before .before .before .before .before .before .before .before .before .count .ensures .0) ∙ length-counted l in
-    let r = c .before .before .before .before .before .before .before .before .before .before .before .before .before .before .before .list-counts .ensures .few in
-    let two = c .before .before .before .before .before .before .before .list-two in
+    let k = ap length (counted .count .ensures .0) ∙ length-counted l in
+    let r = all .list-counts .ensures .few in
+    let two = second .list-two in
     let m = two .ensures .few in
-    let w = length-counted (now (c .before .before .before .before .before .before .before .before .before .before .n-terminal .result)) in
-    ((omega (arith, ap length (c .before .before .c-terminal .ensures)), search needs), (omega (arith, two .kept .1 .1 .0), omega (arith, two .kept .1 .1 .1 .0)))
+    let w = length-counted (now (first .n-terminal .result)) in (
+      (omega (arith, ap length (c .before .before .c-terminal .ensures)), search needs),
+      (omega (arith, two .kept .1 .1 .0), omega (arith, two .kept .1 .1 .1 .0)),
+    )
 
 cast-u32-to-f64 : tie.Need-cast-u32-to-f64
 cast-u32-to-f64 c = search needs
@@ -56,17 +66,23 @@ u32-to-f64-requires c κs = search needs
 
 list-three-requires : tie.Need-list-three-requires
 list-three-requires c κs =
-    let s = c .before .before .before .before .before .before .before .before .before .before .before .before .before .before .before .before .before .before .before .before .before .before .before .before .before .before .before .before .before .before .before .before .before in
+    let third = c .before .before .before .before .before .before .before in
+    let last = third .before .before .before in
+    let second = last .before .before .before .before .before in
+    let first = second .before .before .before in
+    let all = first .before .before .before .before .before in
+    let counted = all .before .before .before .before .before in
+    let s = counted .before .before .before .before .before in
     let l = now (s .args .letters) in
-    let k = ap length (c .before .before .before .before .before .before .before .before .before .before .before .before .before .before .before .before .before .before .before .before .before .before .before .before .before .before .before .before .count .ensures .0) ∙ length-counted l in
-    let one = c .before .before .before .before .before .before .before .before .before .before .before .before .before .before .before .before .before .before .before .before .before .before .before .list-counts in
-    let two = c .before .before .before .before .before .before .before .before .before .before .before .before .before .before .before .list-two in
-    let three = c .before .before .before .before .before .before .before .list-two2 in
+    let k = ap length (counted .count .ensures .0) ∙ length-counted l in
+    let one = all .list-counts in
+    let two = second .list-two in
+    let three = third .list-two2 in
     let r = one .ensures .few in
     let m = two .ensures .few in
-    let w = length-counted (now (c .before .before .before .before .before .before .before .before .before .before .before .before .before .before .before .before .before .before .n-terminal .result)) in
+    let w = length-counted (now (first .n-terminal .result)) in
     let n = three .ensures .few in
-    let v = length-counted (now (c .before .before .before .before .before .before .before .before .before .before .c-terminal .result)) in (
+    let v = length-counted (now (last .c-terminal .result)) in (
       omega (arith, s .pre .1 .0, one .kept .1 .1 .0, two .kept .1 .1 .0, three .kept .1 .1 .0),
       omega (arith, s .pre .1 .1, one .kept .1 .1 .1 .0, two .kept .1 .1 .1 .0, three .kept .1 .1 .1 .0),
       omega arith,
@@ -81,11 +97,22 @@ same-length-2 c = search needs
 returns : tie.Need-returns
 unfolding retentionRow
 returns c =
-    let l = now (c .before .before .before .before .before .before .before .before .before .before .before .before .before .before .before .before .before .before .before .before .before .before .before .before .before .before .before .before .before .before .before .before .before .before .before .before .before .before .args .letters) in
-    both-listed (listed-as (all-counted l (c .before .before .before .before .before .before .before .before .before .before .before .before .before .before .before .before .before .before .before .before .before .before .before .before .before .before .before .before .before .before .before .before .before .count .ensures .0)) (c .before .before .before .before .before .before .before .before .before .before .before .before .before .before .before .before .before .before .before .before .before .before .before .before .before .before .before .before .list-counts .ensures)) (omega (arith, length-block everywhere l))
-    (both-listed (part-listed nTerminal l (c .before .before .before .before .before .before .before .before .before .before .before .before .before .before .before .before .before .before .before .before .before .before .before .n-terminal .ensures) (c .before .before .before .before .before .before .before .before .before .before .before .before .before .before .before .before .before .before .before .before .list-two .ensures)) (omega (arith, length-block nTerminal l))
-    (both-listed (part-listed (cTerminal Retention) l (c .before .before .before .before .before .before .before .before .before .before .before .before .before .before .before .c-terminal .ensures) (c .before .before .before .before .before .before .before .before .before .before .before .before .list-two2 .ensures)) (omega (arith, length-block (cTerminal Retention) l))
-    (listed-as (rw (c .before .before .before .before .before .before .before .u32-to-f64 .ensures, one)) (c .before .before .before .before .list-three .ensures))))
+    let cells = c .before .before .before .before in
+    let third = cells .before .before .before .before .before .before .before .before in
+    let last = third .before .before .before in
+    let second = last .before .before .before .before .before in
+    let first = second .before .before .before in
+    let all = first .before .before .before .before .before in
+    let counted = all .before .before .before .before .before in
+    let s = counted .before .before .before .before .before in
+    let l = now (s .args .letters) in
+    both-listed (listed-as (all-counted l (counted .count .ensures .0)) (all .list-counts .ensures))
+    (omega (arith, length-block everywhere l))
+    (both-listed (part-listed nTerminal l (first .n-terminal .ensures) (second .list-two .ensures))
+    (omega (arith, length-block nTerminal l))
+    (both-listed (part-listed (cTerminal Retention) l (last .c-terminal .ensures) (third .list-two2 .ensures))
+    (omega (arith, length-block (cTerminal Retention) l))
+    (listed-as (rw (cells .before .before .before .u32-to-f64 .ensures, one)) (cells .list-three .ensures))))
 
 pub list-spec : {M : Type 1} → statement M
 list-spec =

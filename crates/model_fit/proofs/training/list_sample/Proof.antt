@@ -10,7 +10,7 @@ use lib.Ieee.{Float, ofBits}
 use lib.ListN.{length, take}
 use lib.Seq.{take-set-le, take-suc-set}
 use Rattle.float.proofs.Zeros.{is-zero}
-use Rattle.embedding.specs.Design.{orderOf, design}
+use Rattle.embedding.specs.Design.{design}
 use Rattle.model_fit.proofs.Laws.{nothing-more, one-listed}
 use Rattle.model_fit.proofs.Rows.{wide-design}
 use borrow.Author.Needs.{needs}

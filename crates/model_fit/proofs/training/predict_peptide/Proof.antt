@@ -1,6 +1,6 @@
 -- `model_fit::training::predict_peptide` meets its contract: where a coefficient is not finite the row is written
 -- out, and else its cells that are not zero are listed.
-use mathlib.Core.Path.{_≡_, sym, _∙_}
+use mathlib.Core.Path.{sym, _∙_}
 use mathlib.Core.List.{List}
 use Prim.Native.Nat.{ℕ, _≤_}
 use native.Mathlib.Omega.{arith}
@@ -9,7 +9,7 @@ use lib.Ieee.{Float}
 use lib.ListN.{length, take}
 use lib.Seq.{length-take-le}
 use borrow.Author.Tests.{not-false}
-use Rattle.embedding.specs.Design.{orderOf, design}
+use Rattle.embedding.specs.Design.{design}
 use Rattle.regression.specs.Sparse.{ListedCells}
 use Rattle.model_fit.proofs.Rows.{wide-design}
 use borrow.Author.Needs.{needs}

@@ -74,9 +74,11 @@ module _ (c : tie.In-loop Inv-loop μ-loop) where
   s = c .before .before
 
   module _ (rest : List Float)
-      (g : ListedCells (s .args .j) (length (now (s .args .part)) - s .args .gap) (now (s .args .places)) (now (s .args .values)) rest)
+      (g : ListedCells (s .args .j) (length (now (s .args .part)) - s .args .gap) (now (s .args .places))
+      (now (s .args .values)) rest)
     where
-      turn : Next (s .args .j) (c .before .loop .inv .2 rest g .0) rest (getD (now (s .args .places)) (c .before .loop .p) 0)
+      turn : Next (s .args .j) (c .before .loop .inv .2 rest g .0) rest
+          (getD (now (s .args .places)) (c .before .loop .p) 0)
           (drop (suc (c .before .loop .p)) (now (s .args .places)))
       turn =
           let m = c .before .loop .inv .2 rest g in
@@ -86,8 +88,8 @@ module _ (c : tie.In-loop Inv-loop μ-loop) where
           ≡ getD rest (getD (now (s .args .places)) (c .before .loop .p) 0 - s .args .j) nan
       value =
           let m = c .before .loop .inv .2 rest g in
-          value-at (s .args .j) rest (now (s .args .places)) (now (s .args .values)) (g .listed) (c .before .loop .p) (m .0) (m .1)
-          (omega arith)
+          value-at (s .args .j) rest (now (s .args .places)) (now (s .args .values)) (g .listed) (c .before .loop .p)
+          (m .0) (m .1) (omega arith)
 
   -- within the rows, and as many values as places
   within : (s .args .j ≤ getD (now (s .args .places)) (c .before .loop .p) 0)
@@ -232,7 +234,8 @@ loop-again c =
             ap
                 (λ (z : Float).
                 set (set (l .part) k (plusScaled (a .x) (getD (l .part) k nan) z)) (a .gap + k)
-                (plusScaled (a .y) (getD (set (l .part) k (plusScaled (a .x) (getD (l .part) k nan) z)) (a .gap + k) nan) z))
+                (plusScaled (a .y)
+                (getD (set (l .part) k (plusScaled (a .x) (getD (l .part) k nan) z)) (a .gap + k) nan) z))
                 (value t rest g)
                 ∙ ap
                 (λ (r : List Float).

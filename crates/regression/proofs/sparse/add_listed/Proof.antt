@@ -154,7 +154,8 @@ module _ (c : tie.Then1 Inv-loop μ-loop) where
       let f = few lastO in
       value-at 0 ext (places lastO) (values lastO) (g .listed) (l .m) (v .0)
       (ap (drop (l .m)) (sym (take-all (n lastO) (places lastO) (omega arith))) ∙ v .1) (omega (arith, f .0))
-      ∙ ap (λ (i : ℕ). getD ext i nan) {x = getD (places lastO) (l .m) 0 - 0} {y = getD (places lastO) (l .m) 0} (omega arith)
+      ∙ ap (λ (i : ℕ). getD ext i nan) {x = getD (places lastO) (l .m) 0 - 0} {y = getD (places lastO) (l .m) 0}
+      (omega arith)
 
   abbrev lastJ : ℕ
   lastJ = getD (places lastO) (c .before .before .loop .m) 0
@@ -209,7 +210,8 @@ module _ (d : tie.After-add-two-rows Inv-loop μ-loop) where
       let long = ap (λ (w : ℕ). length (wentPart w)) (sym (g .wide)) ∙ b .long in
       let back =
       done .ensures xs long (b .low) (b .two)
-      ∙ ap (λ (w : ℕ). twoAdded (getD xs 0 nan) xs (getD xs lead nan) (drop lead xs) gap (wentPart w)) (sym (g .wide)) in
+      ∙ ap (λ (w : ℕ). twoAdded (getD xs 0 nan) xs (getD xs lead nan) (drop lead xs) gap (wentPart w))
+      (sym (g .wide)) in
       subst
       (λ (w : ℕ).
       Walked ext (acc₀ went-o) (places went-o) (n went-o) (k went-o) (wentAcc w) (went .before .loop .m + 2))
@@ -251,8 +253,8 @@ module _ (d : tie.After-add-places Inv-loop μ-loop) where
       ∙ ap (λ (w : ℕ). zipped (plusNonzero (getD ext j nan)) (endPart w) xs) (sym (g .wide)) in
       subst
       (λ (w : ℕ).
-      Walked ext (acc₀ ended-o) (places ended-o) (n ended-o) (k ended-o) (endAcc w) (ended-at .before .before .loop .m + 1))
-      (g .wide) (t .next (done .last .0) (done .kept .0 ∙ sym wide) back)
+      Walked ext (acc₀ ended-o) (places ended-o) (n ended-o) (k ended-o) (endAcc w)
+      (ended-at .before .before .loop .m + 1)) (g .wide) (t .next (done .last .0) (done .kept .0 ∙ sym wide) back)
 
 -- the rows by the width that was passed
 by-width : (o : tie.After-columns Inv-loop μ-loop) (ext : List Float)
@@ -290,95 +292,118 @@ mul-j c =
 
 shared-slice-read-j : tie.Need-shared-slice-read-j Inv-loop μ-loop
 shared-slice-read-j c =
-    let b = bounds (c .before) in omega (arith, b .0, b .1, b .2, b .3, b .4, b .5, b .6)
+    let b = bounds (c .before) in
+    omega (arith, b .0, b .1, b .2, b .3, b .4, b .5, b .6)
 
 add-i : tie.Need-add-i Inv-loop μ-loop
 add-i c =
-    let b = bounds (c .before) in omega (arith, b .0, b .1, b .2, b .3, b .4, b .5, b .6)
+    let b = bounds (c .before) in
+    omega (arith, b .0, b .1, b .2, b .3, b .4, b .5, b .6)
 
 mul-i : tie.Need-mul-i Inv-loop μ-loop
 mul-i c =
-    let b = bounds (c .before) in omega (arith, b .0, b .1, b .2, b .3, b .4, b .5, b .6)
+    let b = bounds (c .before) in
+    omega (arith, b .0, b .1, b .2, b .3, b .4, b .5, b .6)
 
 shared-slice-read-i : tie.Need-shared-slice-read-i Inv-loop μ-loop
 shared-slice-read-i c =
-    let b = bounds (c .before .before) in omega (arith, b .0, b .1, b .2, b .3, b .4, b .5, b .6)
+    let b = bounds (c .before .before) in
+    omega (arith, b .0, b .1, b .2, b .3, b .4, b .5, b .6)
 
 mul-start : tie.Need-mul-start Inv-loop μ-loop
 mul-start c =
-    let b = bounds (c .before .before) in omega (arith, b .0, b .1, b .2, b .3, b .4, b .5, b .6)
+    let b = bounds (c .before .before) in
+    omega (arith, b .0, b .1, b .2, b .3, b .4, b .5, b .6)
 
 shared-slice-read-start : tie.Need-shared-slice-read-start Inv-loop μ-loop
 shared-slice-read-start c =
-    let b = bounds (c .before .before .before) in omega (arith, b .0, b .1, b .2, b .3, b .4, b .5, b .6)
+    let b = bounds (c .before .before .before) in
+    omega (arith, b .0, b .1, b .2, b .3, b .4, b .5, b .6)
 
 mul-below : tie.Need-mul-below Inv-loop μ-loop
 mul-below c =
-    let b = bounds (c .before .before .before) in omega (arith, b .0, b .1, b .2, b .3, b .4, b .5, b .6)
+    let b = bounds (c .before .before .before) in
+    omega (arith, b .0, b .1, b .2, b .3, b .4, b .5, b .6)
 
 shared-slice-read-below : tie.Need-shared-slice-read-below Inv-loop μ-loop
 shared-slice-read-below c =
-    let b = bounds (c .before .before .before .before) in omega (arith, b .0, b .1, b .2, b .3, b .4, b .5, b .6)
+    let b = bounds (c .before .before .before .before) in
+    omega (arith, b .0, b .1, b .2, b .3, b .4, b .5, b .6)
 
 sub-end : tie.Need-sub-end Inv-loop μ-loop
 sub-end c =
-    let b = bounds (c .before .before .before .before) in omega (arith, b .0, b .1, b .2, b .3, b .4, b .5, b .6)
+    let b = bounds (c .before .before .before .before) in
+    omega (arith, b .0, b .1, b .2, b .3, b .4, b .5, b .6)
 
 add-end : tie.Need-add-end Inv-loop μ-loop
 add-end c =
-    let b = bounds (c .before .before .before .before) in omega (arith, b .0, b .1, b .2, b .3, b .4, b .5, b .6)
+    let b = bounds (c .before .before .before .before) in
+    omega (arith, b .0, b .1, b .2, b .3, b .4, b .5, b .6)
 
 mul-add-two-rows : tie.Need-mul-add-two-rows Inv-loop μ-loop
 mul-add-two-rows c =
-    let b = bounds (c .before .before .before .before) in omega (arith, b .0, b .1, b .2, b .3, b .4, b .5, b .6)
+    let b = bounds (c .before .before .before .before) in
+    omega (arith, b .0, b .1, b .2, b .3, b .4, b .5, b .6)
 
 sub-add-two-rows : tie.Need-sub-add-two-rows Inv-loop μ-loop
 sub-add-two-rows c =
-    let b = bounds (c .before .before .before .before) in omega (arith, b .0, b .1, b .2, b .3, b .4, b .5, b .6)
+    let b = bounds (c .before .before .before .before) in
+    omega (arith, b .0, b .1, b .2, b .3, b .4, b .5, b .6)
 
 part-add-two-rows-start : tie.Need-part-add-two-rows-start Inv-loop μ-loop
 part-add-two-rows-start c =
-    let b = bounds (c .before .before .before .before) in omega (arith, b .0, b .1, b .2, b .3, b .4, b .5, b .6)
+    let b = bounds (c .before .before .before .before) in
+    omega (arith, b .0, b .1, b .2, b .3, b .4, b .5, b .6)
 
 part-add-two-rows-end : tie.Need-part-add-two-rows-end Inv-loop μ-loop
 part-add-two-rows-end c =
-    let b = bounds (c .before .before .before .before) in omega (arith, b .0, b .1, b .2, b .3, b .4, b .5, b .6)
+    let b = bounds (c .before .before .before .before) in
+    omega (arith, b .0, b .1, b .2, b .3, b .4, b .5, b .6)
 
 mul-add-two-rows-2 : tie.Need-mul-add-two-rows-2 Inv-loop μ-loop
 mul-add-two-rows-2 c =
-    let b = bounds (c .before .before .before .before .before) in omega (arith, b .0, b .1, b .2, b .3, b .4, b .5, b .6)
+    let b = bounds (c .before .before .before .before .before) in
+    omega (arith, b .0, b .1, b .2, b .3, b .4, b .5, b .6)
 
 sub-add-two-rows-2 : tie.Need-sub-add-two-rows-2 Inv-loop μ-loop
 sub-add-two-rows-2 c =
-    let b = bounds (c .before .before .before .before .before) in omega (arith, b .0, b .1, b .2, b .3, b .4, b .5, b .6)
+    let b = bounds (c .before .before .before .before .before) in
+    omega (arith, b .0, b .1, b .2, b .3, b .4, b .5, b .6)
 
 part-add-two-rows-start-2 : tie.Need-part-add-two-rows-start-2 Inv-loop μ-loop
 part-add-two-rows-start-2 c =
-    let b = bounds (c .before .before .before .before .before) in omega (arith, b .0, b .1, b .2, b .3, b .4, b .5, b .6)
+    let b = bounds (c .before .before .before .before .before) in
+    omega (arith, b .0, b .1, b .2, b .3, b .4, b .5, b .6)
 
 part-add-two-rows-end-2 : tie.Need-part-add-two-rows-end-2 Inv-loop μ-loop
 part-add-two-rows-end-2 c =
-    let b = bounds (c .before .before .before .before .before) in omega (arith, b .0, b .1, b .2, b .3, b .4, b .5, b .6)
+    let b = bounds (c .before .before .before .before .before) in
+    omega (arith, b .0, b .1, b .2, b .3, b .4, b .5, b .6)
 
 mul-add-two-rows-3 : tie.Need-mul-add-two-rows-3 Inv-loop μ-loop
 mul-add-two-rows-3 c =
-    let b = bounds (c .before .before .before .before .before .before) in omega (arith, b .0, b .1, b .2, b .3, b .4, b .5, b .6)
+    let b = bounds (c .before .before .before .before .before .before) in
+    omega (arith, b .0, b .1, b .2, b .3, b .4, b .5, b .6)
 
 sub-add-two-rows-3 : tie.Need-sub-add-two-rows-3 Inv-loop μ-loop
 sub-add-two-rows-3 c =
-    let b = bounds (c .before .before .before .before .before .before) in omega (arith, b .0, b .1, b .2, b .3, b .4, b .5, b .6)
+    let b = bounds (c .before .before .before .before .before .before) in
+    omega (arith, b .0, b .1, b .2, b .3, b .4, b .5, b .6)
 
 part-add-two-rows-start-3 : tie.Need-part-add-two-rows-start-3 Inv-loop μ-loop
 part-add-two-rows-start-3 c =
-    let b = bounds (c .before .before .before .before .before .before) in omega (arith, b .0, b .1, b .2, b .3, b .4, b .5, b .6)
+    let b = bounds (c .before .before .before .before .before .before) in
+    omega (arith, b .0, b .1, b .2, b .3, b .4, b .5, b .6)
 
 part-add-two-rows-end-3 : tie.Need-part-add-two-rows-end-3 Inv-loop μ-loop
 part-add-two-rows-end-3 c =
-    let b = bounds (c .before .before .before .before .before .before) in omega (arith, b .0, b .1, b .2, b .3, b .4, b .5, b .6)
+    let b = bounds (c .before .before .before .before .before .before) in
+    omega (arith, b .0, b .1, b .2, b .3, b .4, b .5, b .6)
 
 sub-add-two-rows-4 : tie.Need-sub-add-two-rows-4 Inv-loop μ-loop
 sub-add-two-rows-4 c =
-    let b = bounds (c .before .before .before .before .before .before .before) in omega (arith, b .0, b .1, b .2, b .3, b .4, b .5, b .6)
+    let b = bounds (c .before .before .before .before .before .before .before) in
+    omega (arith, b .0, b .1, b .2, b .3, b .4, b .5, b .6)
 
 add-two-rows-requires : tie.Need-add-two-rows-requires Inv-loop μ-loop
 add-two-rows-requires c κs =
@@ -507,8 +532,8 @@ returns c =
     let o = ended-o d in
     let l = d .before .before .before .before .before .before .before .before .before .loop in (
       λ ext g.
-          all-walked ext (acc₀ o) (places o) (n o) (k o) (starts o) (values o) (known o ext g) _ (l .m + 1) (ended d ext g)
-          (omega arith)
+          all-walked ext (acc₀ o) (places o) (n o) (k o) (starts o) (values o) (known o ext g) _ (l .m + 1)
+          (ended d ext g) (omega arith)
           ∙ by-width o ext g,
       λ ext g. columns-are ext (acc₀ o) (places o) (n o) (k o) (starts o) (values o) (known o ext g),
     )

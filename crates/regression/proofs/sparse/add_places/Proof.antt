@@ -35,7 +35,8 @@ module _ (c : tie.In-loop Inv-loop μ-loop) where
   module _ (rest : List Float)
       (g : ListedCells (s .args .j) (length (now (s .args .row))) (now (s .args .places)) (now (s .args .values)) rest)
     where
-      turn : Next (s .args .j) (c .before .loop .inv .2 rest g .0) rest (getD (now (s .args .places)) (c .before .loop .p) 0)
+      turn : Next (s .args .j) (c .before .loop .inv .2 rest g .0) rest
+          (getD (now (s .args .places)) (c .before .loop .p) 0)
           (drop (suc (c .before .loop .p)) (now (s .args .places)))
       turn =
           let m = c .before .loop .inv .2 rest g in
@@ -45,8 +46,8 @@ module _ (c : tie.In-loop Inv-loop μ-loop) where
           ≡ getD rest (getD (now (s .args .places)) (c .before .loop .p) 0 - s .args .j) nan
       value =
           let m = c .before .loop .inv .2 rest g in
-          value-at (s .args .j) rest (now (s .args .places)) (now (s .args .values)) (g .listed) (c .before .loop .p) (m .0) (m .1)
-          (omega arith)
+          value-at (s .args .j) rest (now (s .args .places)) (now (s .args .values)) (g .listed) (c .before .loop .p)
+          (m .0) (m .1) (omega arith)
 
   -- within the row, and as many values as places
   within : (s .args .j ≤ getD (now (s .args .places)) (c .before .loop .p) 0)
@@ -111,7 +112,10 @@ loop-again c =
           let m = t .before .loop .inv .2 rest g in (
             suc k,
             left-next (a .j) rest (now (a .places)) p (m .0) (m .1) (omega arith),
-            ap (λ (v : Float). set (t .before .loop .row) k (plusScaled (a .factor) (getD (t .before .loop .row) k nan) v)) (value t rest g)
+            ap
+                (λ (v : Float).
+                set (t .before .loop .row) k (plusScaled (a .factor) (getD (t .before .loop .row) k nan) v))
+                (value t rest g)
                 ∙ ap (λ (r : List Float). set r k (plusScaled (a .factor) (getD r k nan) (getD rest k nan))) (m .2)
                 ∙ row-next (a .factor) rest (now (a .row)) (s t .pre .0) (a .j) (m .0) _ _ (turn t rest g),
           ),

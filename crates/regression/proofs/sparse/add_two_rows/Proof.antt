@@ -1,6 +1,6 @@
 -- `regression::sparse::add_two_rows` meets its contract: the first cell of the first row is visited, and the cells from
 -- the second row's column on are lent to `add_both` and come back.
-use mathlib.Core.Path.{_≡_, sym, ap, _∙_}
+use mathlib.Core.Path.{_≡_, ap, _∙_}
 use mathlib.Core.List.{List}
 use Prim.Native.Nat.{ℕ, _+_, _-_, _≤_, _<_}
 use native.Mathlib.Omega.{arith}
