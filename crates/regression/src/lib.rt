@@ -152,9 +152,10 @@ pub fn all_finite(cells: &[f64]) -> bool
 }
 
 // Adds a sample as `add_row` does and skips its zeros: only the pairs of columns that are not zero are visited, and
-// each such column's pair with a target that is not zero. Answers how many pairs of columns are visited, k * (k + 1) / 2
-// for k such columns. `places` and `values` list the sample's cells that are not zero, which are finite; the last of
-// its d + 1 cells is `target`. To sums of samples, which began at +0.0, it does what `add_row` does. For the models.
+// each such column's pair with a target that is not zero. Answers how many pairs of columns are visited:
+// k * (k + 1) / 2 for k such columns. `places` and `values` list the sample's cells that are not zero, which are
+// finite; the last of its d + 1 cells is `target`. To sums of samples, which began at +0.0, it does what `add_row`
+// does. For the models.
 pub fn add_row_listed(
     workspace: &mut [f64],
     d: usize,
