@@ -4,7 +4,8 @@ pub mod Falling
 pub mod Triangle
 pub mod Visited
 pub mod Places
-pub mod Pair
+pub mod Begun
+pub mod Gained
 pub mod Walk
 pub mod Dot
 pub mod Unfolding

@@ -1,5 +1,4 @@
--- A loop over the places of the cells that are not zero: what is left of them at a turn, and a row that is made anew at
--- each, alone or beside another in the same list.
+-- A loop over the places of the cells that are not zero: what is left of them and of their values at a turn.
 use mathlib.Core.Path.{_≡_, refl, sym, ap, _∙_}
 use mathlib.Core.Bool.{true, false}
 use mathlib.Core.List.{List, [], _∷_, _++_, append-assoc}
@@ -42,7 +41,7 @@ module _ (j : ℕ) (rest : List Float) (places : List ℕ) where
     left-next = rw (add-one p) (next-left .rest)
 
     -- the zeros before the next place passed over
-    left-here : Left p (getD places p 0 - j)
+    pub left-here : Left p (getD places p 0 - j)
     left-here =
         let n = next-left in
         let k : ℕ = getD places p 0 - j in
@@ -95,80 +94,3 @@ module _ (j : ℕ) (rest : List Float) (places : List ℕ) (values : List Float)
       ∙ sym (getD-drop p values 0 nan)
       ∙ ap (λ (t : List Float). getD t 0 nan) here
       ∙ first
-
--- ---- a row, made anew at each place by a factor that is not zero
-
--- cell i made anew
-abbrev pub scaledCell : Float → List Float → ℕ → Float → Float
-scaledCell x rest i d = plusNonzero x d (getD rest i nan)
-
-module _ (x : Float) (rest row : List Float) (nonzero : isZero x ≡ false) where
-  -- a zero cell stays as it is
-  stays : (i : ℕ) → isZero (getD rest i nan) ≡ true → scaledCell x rest i (getD row i nan) ≡ getD row i nan
-  stays i z = rw (nonzero, z)
-
-  -- the next place
-  pub row-next : (j u q : ℕ) (ps : List ℕ) → Next j u rest q ps
-      → let made-to = made (scaledCell x rest) u row in
-      set made-to (q - j) (plusScaled x (getD made-to (q - j) nan) (getD rest (q - j) nan))
-      ≡ made (scaledCell x rest) (suc (q - j)) row
-  row-next j u q ps n =
-      let k : ℕ = q - j in
-      let skipped : made (scaledCell x rest) u row ≡ made (scaledCell x rest) k row =
-      made-skip (scaledCell x rest) u k row nan (omega (arith, n .from)) (λ i l m e. stays i (n .zeros i l m)) in
-      let visited : (d : Float) → plusScaled x d (getD rest k nan) ≡ scaledCell x rest k d =
-      λ d. rw (nonzero, n .here) in
-      ap (set (made (scaledCell x rest) u row) k) (visited (getD (made (scaledCell x rest) u row) k nan))
-      ∙ ap (λ (r : List Float). set r k (scaledCell x rest k (getD r k nan))) skipped
-      ∙ made-suc (scaledCell x rest) k row nan
-
-  -- where no place is left, zeros are
-  pub row-all : (j u : ℕ) → [] ≡ nonzeros (j + u) (drop u rest) → length row ≡ length rest
-      → made (scaledCell x rest) u row ≡ zipped (plusNonzero x) row rest
-  row-all j u none wide =
-      let n : ℕ = u + length row in
-      made-skip (scaledCell x rest) u n row nan (omega arith)
-      (λ i l m k. stays i (none-left j u rest none i l (omega arith)))
-      ∙ made-zipped (plusNonzero x) nan n row rest (omega arith) (omega arith)
-
--- ---- two rows in one list, and cells between them
-
-set-past : (xs ys : List Float) (k : ℕ) (a : Float) → set (xs ++ ys) (length xs + k) a ≡ xs ++ set ys k a
-set-past [] ys k a = ap (λ (i : ℕ). set ys i a) (zero-add k)
-set-past (x ∷ xs) ys k a =
-    ap (λ (i : ℕ). set (x ∷ (xs ++ ys)) i a) (suc-add (length xs) k)
-    ∙ ap (λ (t : List Float). x ∷ t) (set-past xs ys k a)
-
--- cell k of the second, which begins at `gap`
-module _ (xs between ys : List Float) (gap k : ℕ) (e : gap ≡ length xs + length between) where
-  at-second : gap + k ≡ length (xs ++ between) + k
-  at-second = omega (arith, length-append xs between)
-
-  set-second : (a : Float) → set (xs ++ (between ++ ys)) (gap + k) a ≡ xs ++ (between ++ set ys k a)
-  set-second a =
-      ap (λ (i : ℕ). set (xs ++ (between ++ ys)) i a) at-second
-      ∙ ap (λ (t : List Float). set t (length (xs ++ between) + k) a) (sym (append-assoc xs between ys))
-      ∙ set-past (xs ++ between) ys k a
-      ∙ append-assoc xs between (set ys k a)
-
-  get-second : getD (xs ++ (between ++ ys)) (gap + k) nan ≡ getD ys k nan
-  get-second =
-      ap (λ (i : ℕ). getD (xs ++ (between ++ ys)) i nan) at-second
-      ∙ ap (λ (t : List Float). getD t (length (xs ++ between) + k) nan) (sym (append-assoc xs between ys))
-      ∙ getD-append-add (xs ++ between) ys k nan
-
--- cell k of the first and then cell k of the second, each from what it was
-pub two-cells : (xs between ys : List Float) (gap k : ℕ) (f g : Float → Float) → k < length xs
-    → gap ≡ length xs + length between
-    → let one = set (xs ++ (between ++ ys)) k (f (getD (xs ++ (between ++ ys)) k nan)) in
-    set one (gap + k) (g (getD one (gap + k) nan))
-    ≡ set xs k (f (getD xs k nan)) ++ (between ++ set ys k (g (getD ys k nan)))
-two-cells xs between ys gap k f g h e =
-    let first : List Float = set xs k (f (getD xs k nan)) in
-    let one : set (xs ++ (between ++ ys)) k (f (getD (xs ++ (between ++ ys)) k nan)) ≡ first ++ (between ++ ys) =
-    ap (λ (d : Float). set (xs ++ (between ++ ys)) k (f d)) (List·getD-append xs (between ++ ys) nan k h)
-    ∙ set-append-left xs (between ++ ys) k (f (getD xs k nan)) h in
-    let e′ : gap ≡ length first + length between = e ∙ ap (λ (n : ℕ). n + length between) (sym (length-set xs k _)) in
-    ap (λ (t : List Float). set t (gap + k) (g (getD t (gap + k) nan))) one
-    ∙ ap (λ (d : Float). set (first ++ (between ++ ys)) (gap + k) (g d)) (get-second first between ys gap k e′)
-    ∙ set-second first between ys gap k e′ (g (getD ys k nan))

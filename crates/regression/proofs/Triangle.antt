@@ -127,7 +127,7 @@ folded-normal D ss =
 
 module _ (f : Float → Float → Float → Float) where
   -- to a table of rows
-  add-tabulate : (n : ℕ) (rowAt : ℕ → List Float) (ext : List Float) → n ≤ length ext
+  pub add-tabulate : (n : ℕ) (rowAt : ℕ → List Float) (ext : List Float) → n ≤ length ext
       → addTriangleBy f (tabulate n rowAt) ext ≡ tabulate n (λ j. zipped (f (getD ext j nan)) (rowAt j) (drop j ext))
   unfolding tabulate addTriangleBy
   add-tabulate zero rowAt ext h = refl

@@ -2,14 +2,14 @@
 -- columns are visited. An extended row is a design row and then the target. Definitions only.
 use mathlib.Core.Path.{_≡_}
 use mathlib.Core.Bool.{Bool, _||_, cond}
-use mathlib.Core.List.{List, _++_}
-use Prim.Native.Nat.{ℕ, _+_, _-_, _*_, _/_, _≤_, _<_}
-use lib.ListN.{length, getD, take, drop}
+use mathlib.Core.List.{List, [], _∷_}
+use Prim.Native.Nat.{ℕ, zero, suc, _+_, _-_, _*_, _/_, _≤_, _<_}
+use lib.ListN.{length, getD, set, take}
 use lib.Ieee.{Float, nan}
 use Rattle.float.specs.Value.{isFinite, isZero}
 use Rattle.status.specs.Checks.{every}
-use Rattle.matrix.specs.Lists.{zipped}
 use Rattle.matrix.specs.Nonzero.{nonzeros, Nonzeros}
+use Rattle.regression.specs.declared.block.Four.{Four}
 use Rattle.regression.specs.Regression.{plusScaled}
 use Rattle.regression.specs.Falling.{fallingStart}
 use Rattle.regression.specs.Triangle.{addTriangleBy, addTriangle}
@@ -22,14 +22,6 @@ allFinite cells = every isFinite cells
 pub record RowStarts (D : ℕ) (starts : List ℕ) : Type 0 where
   pub enough : D ≤ length starts
   pub at : (j : ℕ) → j < D → getD starts j 0 ≡ fallingStart (D + 1) j
-
--- the places and the values of the cells of a list that are not zero, its first cell being at place j and i the next
--- place
-pub record NextPlace (j i : ℕ) (xs : List Float) (places : List ℕ) (values : List Float) : Type 0 where
-  pub listed : Nonzeros j xs places values
-  pub first : getD places 0 0 ≡ j
-  pub next : getD places 1 0 ≡ i
-  pub two : 2 ≤ length places
 
 -- n cells from place j on by those of them that are not zero
 pub record ListedCells (j n : ℕ) (places : List ℕ) (values cells : List Float) : Type 0 where
@@ -49,15 +41,57 @@ pub record ListedRow (w : ℕ) (target : Float) (places : List ℕ) (values ext 
 abbrev pub plusNonzero : Float → Float → Float → Float
 plusNonzero c d s = cond (isZero c || isZero s) d (plusScaled c d s)
 
--- two rows that lie in one list, the first from its first cell on and the second from `gap` on: c times xs added to the
--- one and d times ys to the other
-abbrev pub twoAdded : (c : Float) (xs : List Float) (d : Float) (ys : List Float) (gap : ℕ)
-    → List Float → List Float
-twoAdded c xs d ys gap cells =
-    let n : ℕ = length xs in
-    zipped (plusNonzero c) (take n cells) xs
-    ++ (take (gap - n) (drop n cells)
-    ++ zipped (plusNonzero d) (drop gap cells) ys)
+-- x times v added to the cell at a place of the list
+abbrev pub cellAdded : (at : ℕ) (x v : Float) → List Float → List Float
+cellAdded at x v acc = set acc at (plusScaled x (getD acc at nan) v)
+
+-- Rows, each by where its column 0 would be in the list, and its factor: to the cell of column c of each of them, one
+-- after the other, v times the factor added.
+abbrev pub columnAdded : (rows : List (ℕ × Float)) (c : ℕ) (v : Float) → List Float → List Float
+columnAdded [] c v acc = acc
+columnAdded (r ∷ rows) c v acc = columnAdded rows c v (cellAdded (r .0 + c) (r .1) v acc)
+
+-- those of the columns at n places, from place p on
+abbrev pub rowsAt : (places : List ℕ) (values : List Float) (starts : List ℕ) (n p : ℕ) → List (ℕ × Float)
+rowsAt places values starts zero p = []
+rowsAt places values starts (suc n) p =
+    (getD starts (getD places p 0) 0 - getD places p 0, getD values p nan) ∷ rowsAt places values starts n (suc p)
+
+-- four of them
+abbrev pub rowsOf : Four → List (ℕ × Float)
+rowsOf r = (r .a, r .w) ∷ (r .b, r .x) ∷ (r .c, r .y) ∷ (r .d, r .z) ∷ []
+
+-- for each of these columns, by its place and its value
+abbrev pub columnsAdded : (rows : List (ℕ × Float)) (places : List ℕ) (values : List Float) → List Float → List Float
+columnsAdded rows [] values acc = acc
+columnsAdded rows (c ∷ places) [] acc = acc
+columnsAdded rows (c ∷ places) (v ∷ values) acc = columnsAdded rows places values (columnAdded rows c v acc)
+
+-- the cell of column c in the stored row j, and where it lies
+pub record Stored (w j c : ℕ) : Type 0 where
+  pub row : suc j < w
+  pub from : j ≤ c
+  pub within : c < w
+
+abbrev pub cellAt : (w j c : ℕ) → ℕ
+cellAt w j c = fallingStart w j + (c - j)
+
+-- an extended row by its cells that are not zero, and stored rows for it with where each of them starts
+pub record Addable (ext acc : List Float) (places : List ℕ) (values : List Float) (starts : List ℕ) : Type 0 where
+  pub listed : Nonzeros 0 ext places values
+  pub whole : length acc ≡ fallingStart (length ext) (length ext - 1)
+  pub firsts : RowStarts (length ext - 1) starts
+
+-- the stored rows from J on and below K with the products of an extended row, and the others as they were
+pub record Gained (ext : List Float) (J K : ℕ) (before after : List Float) : Type 0 where
+  pub long : length after ≡ length before
+  pub above : (j c : ℕ) → Stored (length ext) j c → j < J
+      → getD after (cellAt (length ext) j c) nan ≡ getD before (cellAt (length ext) j c) nan
+  pub gained : (j c : ℕ) → Stored (length ext) j c → J ≤ j → j < K
+      → getD after (cellAt (length ext) j c) nan
+      ≡ plusNonzero (getD ext j nan) (getD before (cellAt (length ext) j c) nan) (getD ext c nan)
+  pub below : (j c : ℕ) → Stored (length ext) j c → K ≤ j
+      → getD after (cellAt (length ext) j c) nan ≡ getD before (cellAt (length ext) j c) nan
 
 -- To the stored rows: of an extended row whose cells are all finite the products of two cells that are not zero, and of
 -- another all products.

@@ -42,6 +42,7 @@ ghost use Rattle.regression.specs.Regression.{
   r2Of,
 };
 
+mod block; // stored rows that gain a sample, four at a time
 mod sparse; // a sample whose zeros are skipped
 
 // What a fit answers: the ridge that solved the normal equations with r2 and the number of training
