@@ -1,5 +1,5 @@
--- A block of stored rows that gains a sample column after column, and down each column. A stored cell lies at a place of
--- its own, so that what is added to one leaves the others as they are.
+-- A block of stored rows that gains a sample column after column, and down each column. A stored cell lies at a place
+-- of its own, so that what is added to one leaves the others as they are.
 use mathlib.Core.Path.{_≡_, refl, sym, ap, ap₂, _∙_, subst}
 use mathlib.Core.Bool.{Bool, true, false, _||_, cond}
 use mathlib.Core.List.{List, [], _∷_}
@@ -67,7 +67,8 @@ module _ (ext acc₀ : List Float) where
   zero-column j c z = by (isZero (getD ext j nan))
     where
       by : (b : Bool)
-          → cond (b || isZero (getD ext c nan)) (cell acc₀ j c) (plusScaled (getD ext j nan) (cell acc₀ j c) (getD ext c nan))
+          → cond (b || isZero (getD ext c nan)) (cell acc₀ j c) (plusScaled (getD ext j nan) (cell acc₀ j c)
+          (getD ext c nan))
           ≡ cell acc₀ j c
       by true = refl
       by false = rw z
@@ -344,6 +345,10 @@ module _ (ext acc₀ : List Float) where
       left-at (suc p) h =
           let l = left-at p (omega arith) in (suc (getD places p 0), left-suc p (l .0) (l .1) (omega arith))
 
+      pub within-row : (r : ℕ) → r < length places → getD places r 0 < w
+      within-row r h =
+          let l = left-at r (omega arith) in omega (arith, next-left 0 ext places r (l .0) (l .1) h .within)
+
       -- the places rise
       pub rising : (n p B : ℕ) → Left 0 ext places p B → p + n < length places
           → getD places p 0 + n ≤ getD places (p + n) 0
@@ -411,10 +416,6 @@ module _ (ext acc₀ : List Float) where
             left-here 0 ext places p (l .0) (l .1) h
             ∙ ap (λ (i : ℕ). nonzeros (0 + i) (drop i ext)) {x = q - 0} {y = q} (omega arith)
 
-        pub place-within : (r : ℕ) → r < length places → getD places r 0 < w
-        place-within r h =
-            let l = left-at r (omega arith) in omega (arith, next-left 0 ext places r (l .0) (l .1) h .within)
-
         -- what the code reads lies within what it was passed
         module _ (p : ℕ) (h : p < length places) (row : getD places p 0 + 1 < w) where
           pub start-is : getD starts (getD places p 0) 0 ≡ fallingStart w (getD places p 0)
@@ -440,11 +441,11 @@ module _ (ext acc₀ : List Float) where
                 ap (λ (i : ℕ). getD places i 0) {x = p + (r - p)} {y = r} (omega arith),
               ) in
               let s : Stored w q (getD places r 0) =
-              record { row = omega arith; from = up; within = place-within r m } in
+              record { row = omega arith; from = up; within = within-row r m } in
               omega (arith, cell-within w q (getD places r 0) s, start-is, in-starts .1, up)
 
         -- at a place, with the zero columns before it passed over
-        reach : (J F K p c : ℕ) (acc : List Float) → p < length places → Reached J F K p c acc
+        pub reach : (J F K p c : ℕ) (acc : List Float) → p < length places → Reached J F K p c acc
             → Reached J F K p (getD places p 0) acc
         reach J F K p c acc h r =
             let q : ℕ = getD places p 0 in
@@ -466,7 +467,7 @@ module _ (ext acc₀ : List Float) where
             record {
               at = q;
               from = omega arith;
-              within = omega (arith, place-within m h);
+              within = omega (arith, within-row m h);
               left = here m h;
               begun = begin q K q (omega arith) b;
             }
@@ -556,11 +557,15 @@ module _ (ext acc₀ : List Float) where
               (subst (λ (p : ℕ). Reached F F (place 3 + 1) p (suc (place i)) more) {x = suc (m + i)} {y = m + suc i}
               (omega arith) one)
 
-          pub four-gained : Gained ext (getD places m 0) (place 3 + 1) acc₀
-              (columnsAdded (rows 4) (drop (m + 3) places) (drop (m + 3) values)
-              (columnAdded (rows 3) (place 2) (value 2)
-              (columnAdded (rows 2) (place 1) (value 1) (columnAdded (rows 1) (place 0) (value 0) acc₀))))
-          four-gained =
+          -- what the columns of the first three rows leave, of rows and factors
+          abbrev pub cornered : (rs : List (ℕ × Float)) (j : ℕ) (x y z : Float) → List Float
+          cornered rs j x y z =
+              columnAdded (take 3 rs) (place 2) z
+              (columnAdded (take 2 rs) (place 1) y (columnAdded (take 1 rs) j x acc₀))
+
+          corners : Reached (getD places m 0) (getD places m 0) (place 3 + 1) (m + 3) (place 3)
+              (cornered (rows 4) (place 0) (value 0) (value 1) (value 2))
+          corners =
               let F : ℕ = getD places m 0 in
               let a = up 0 (omega arith) in
               let c = up 1 (omega arith) in
@@ -570,10 +575,12 @@ module _ (ext acc₀ : List Float) where
               (start-block (place 3 + 1) m (omega arith) (omega (arith, first))) in
               let r₁ = corner 0 acc₀ (omega arith) (omega arith) r₀ in
               let r₂ = corner 1 _ (omega arith) (omega arith) r₁ in
-              let r₃ = corner 2 _ (omega arith) (omega arith) r₂ in
-              rest-gained F F (place 3 + 1) (m + 3) (rows 4) _ h
-              (subst (λ (L : ℕ). Rows F L (rows 4)) {x = suc (place 3)} {y = place 3 + 1} (omega arith)
-              (rows-are 3 (omega arith) (omega arith))) (omega arith) r₃
+              corner 2 _ (omega arith) (omega arith) r₂
+
+          all-rows : Rows (getD places m 0) (place 3 + 1) (rows 4)
+          all-rows =
+              subst (λ (L : ℕ). Rows (getD places m 0) L (rows 4)) {x = suc (place 3)} {y = place 3 + 1} (omega arith)
+              (rows-are 3 (omega arith) (omega arith))
 
           -- the same of four rows as the code holds them
           module _ (four : Four) (e : rowsOf four ≡ rows 4) where
@@ -614,23 +621,28 @@ module _ (ext acc₀ : List Float) where
             factor-is : (i : ℕ) → i < 4 → getD (rowsOf four) i (0, nan) .1 ≡ value i
             factor-is i l = ap (λ (t : List (ℕ × Float)). getD t i (0, nan) .1) e ∙ factor-at i l
 
-            -- what the code leaves, with the factors as they are held
-            abbrev left-by : (rs : List (ℕ × Float)) (j : ℕ) (x y z : Float) → List Float
-            left-by rs j x y z =
-                columnsAdded rs (drop (m + 3) places) (drop (m + 3) values)
-                (columnAdded (take 3 rs) (place 2) z
-                (columnAdded (take 2 rs) (place 1) y (columnAdded (take 1 rs) j x acc₀)))
+            -- the rows and the corner as they are held
+            pub held-rows : Rows (getD places m 0) (place 3 + 1) (rowsOf four)
+            held-rows = subst (Rows (getD places m 0) (place 3 + 1)) (sym e) all-rows
+
+            pub held-corner : Reached (getD places m 0) (getD places m 0) (place 3 + 1) (m + 3) (place 3)
+                (cornered (rowsOf four) (getD places m 0) (four .w) (four .x) (four .y))
+            held-corner =
+                let by : List Float → Type 0 =
+                Reached (getD places m 0) (getD places m 0) (place 3 + 1) (m + 3) (place 3) in
+                subst (λ (rs : List (ℕ × Float)). by (cornered rs (getD places m 0) (four .w) (four .x) (four .y)))
+                (sym e)
+                (subst (λ (j : ℕ). by (cornered (rows 4) j (four .w) (four .x) (four .y))) (sym first)
+                (subst (λ (x : Float). by (cornered (rows 4) (place 0) x (four .x) (four .y)))
+                (sym (factor-is 0 (omega arith)))
+                (subst (λ (y : Float). by (cornered (rows 4) (place 0) (value 0) y (four .y)))
+                (sym (factor-is 1 (omega arith)))
+                (subst (λ (z : Float). by (cornered (rows 4) (place 0) (value 0) (value 1) z))
+                (sym (factor-is 2 (omega arith))) corners))))
 
             pub four-done : Gained ext (getD places m 0) (place 3 + 1) acc₀
-                (left-by (rowsOf four) (getD places m 0) (four .w) (four .x) (four .y))
+                (columnsAdded (rowsOf four) (drop (m + 3) places) (drop (m + 3) values)
+                (cornered (rowsOf four) (getD places m 0) (four .w) (four .x) (four .y)))
             four-done =
-                let by : List Float → Type 0 = Gained ext (getD places m 0) (place 3 + 1) acc₀ in
-                subst (λ (rs : List (ℕ × Float)). by (left-by rs (getD places m 0) (four .w) (four .x) (four .y)))
-                (sym e)
-                (subst (λ (j : ℕ). by (left-by (rows 4) j (four .w) (four .x) (four .y))) (sym first)
-                (subst (λ (x : Float). by (left-by (rows 4) (place 0) x (four .x) (four .y)))
-                (sym (factor-is 0 (omega arith)))
-                (subst (λ (y : Float). by (left-by (rows 4) (place 0) (value 0) y (four .y)))
-                (sym (factor-is 1 (omega arith)))
-                (subst (λ (z : Float). by (left-by (rows 4) (place 0) (value 0) (value 1) z))
-                (sym (factor-is 2 (omega arith))) four-gained))))
+                rest-gained (getD places m 0) (getD places m 0) (place 3 + 1) (m + 3) (rowsOf four) _ h held-rows
+                (omega arith) held-corner

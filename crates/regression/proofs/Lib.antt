@@ -6,6 +6,7 @@ pub mod Visited
 pub mod Places
 pub mod Begun
 pub mod Gained
+pub mod Run
 pub mod Walk
 pub mod Dot
 pub mod Unfolding

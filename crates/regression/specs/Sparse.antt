@@ -67,6 +67,28 @@ columnsAdded rows [] values acc = acc
 columnsAdded rows (c ∷ places) [] acc = acc
 columnsAdded rows (c ∷ places) (v ∷ values) acc = columnsAdded rows places values (columnAdded rows c v acc)
 
+-- Values side by side: x times each of them added to the cells from a place of the list on.
+abbrev pub runAdded : (at : ℕ) (x : Float) (values : List Float) → List Float → List Float
+runAdded at x [] acc = acc
+runAdded at x (v ∷ values) acc = runAdded (suc at) x values (cellAdded at x v acc)
+
+-- to each of these rows, from column c on
+abbrev pub runsAdded : (rows : List (ℕ × Float)) (c : ℕ) (values : List Float) → List Float → List Float
+runsAdded [] c values acc = acc
+runsAdded (r ∷ rows) c values acc = runsAdded rows c values (runAdded (r .0 + c) (r .1) values acc)
+
+-- 4, 6 or 8
+pub record RunLong (n : ℕ) : Type 0 where
+  pub four : 4 ≤ n
+  pub eight : n ≤ 8
+  pub even : n / 2 * 2 ≡ n
+
+-- the places from number h on, if there are any, lie side by side up to the last of w, and are 4, 6 or 8
+pub record RunFrom (w : ℕ) (places : List ℕ) (h : ℕ) : Type 0 where
+  pub within : h ≤ length places
+  pub long : h < length places → RunLong (length places - h)
+  pub last : h < length places → getD places h 0 + (length places - h) ≡ w
+
 -- the cell of column c in the stored row j, and where it lies
 pub record Stored (w j c : ℕ) : Type 0 where
   pub row : suc j < w

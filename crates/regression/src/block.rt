@@ -9,9 +9,13 @@ ghost use Rattle.regression.specs.Sparse.{
   cellAdded,
   columnAdded,
   columnsAdded,
+  runAdded,
+  runsAdded,
   rowsAt,
   rowsOf,
   Addable,
+  RunLong,
+  RunFrom,
   Gained,
 };
 
@@ -88,6 +92,46 @@ fn add_columns(acc: &mut [f64], places: &[usize], values: &[f64], four: Four)
     }
 }
 
+// Adds x * a to a cell, and x * b to the next one.
+fn add_two(acc: &mut [f64], at: usize, x: f64, a: f64, b: f64)
+    requires { ⌜ at + 1 < length (now acc) ⌝ }
+    ensures { λ _. ⌜ now (acc .exit) ≡ cellAdded (at + 1) x b (cellAdded at x a (now (acc .entry))) ⌝ }
+{
+    acc[at] = acc[at] + x * a;
+    acc[at + 1] = acc[at + 1] + x * b;
+}
+
+// Adds x times the values, which are 4, 6 or 8, to cells side by side.
+fn add_run(acc: &mut [f64], at: usize, x: f64, values: &[f64])
+    requires { ⌜ RunLong (length (now values)) × (at + length (now values) ≤ length (now acc)) ⌝ }
+    ensures { λ _. ⌜ now (acc .exit) ≡ runAdded at x (now (values .entry)) (now (acc .entry)) ⌝ }
+{
+    add_two(acc, at, x, values[0], values[1]);
+    add_two(acc, at + 2, x, values[2], values[3]);
+    if values.len() == 4 {
+        return;
+    }
+    add_two(acc, at + 4, x, values[4], values[5]);
+    if values.len() == 6 {
+        return;
+    }
+    add_two(acc, at + 6, x, values[6], values[7]);
+}
+
+// Adds to the columns from k on of four rows, `values` being the sample's cells there.
+fn add_runs(acc: &mut [f64], k: usize, values: &[f64], four: Four)
+    requires { ⌜ RunLong (length (now values)) × (four .a + k + length (now values) ≤ length (now acc)) ⌝ }
+    requires { ⌜ (four .b + k + length (now values) ≤ length (now acc))
+        × (four .c + k + length (now values) ≤ length (now acc))
+        × (four .d + k + length (now values) ≤ length (now acc)) ⌝ }
+    ensures { λ _. ⌜ now (acc .exit) ≡ runsAdded (rowsOf four) k (now (values .entry)) (now (acc .entry)) ⌝ }
+{
+    add_run(acc, four.a + k, four.w, values);
+    add_run(acc, four.b + k, four.x, values);
+    add_run(acc, four.c + k, four.y, values);
+    add_run(acc, four.d + k, four.z, values);
+}
+
 // Where column 0 of row j would be: the row begins with column j.
 fn base(starts: &[usize], j: usize) -> usize
     requires { ⌜ (j < length (now starts)) × (j ≤ getD (now starts) j 0) ⌝ }
@@ -116,20 +160,42 @@ fn four_at(places: &[usize], values: &[f64], starts: &[usize], m: usize) -> Four
     }
 }
 
-// Adds a sample to the stored rows of the columns at four places, from place m on.
+// The number of the place from which on places lie side by side up to the last of w, 4, 6 or 8 of them, or of no place.
+pub(crate) fn run_from(places: &[usize], w: usize) -> usize
+    requires { ⌜ ((p : ℕ) → p < length (now places) → getD (now places) p 0 < w) ⌝ }
+    ensures { λ r. ⌜ RunFrom w (now (places .entry)) r ⌝ }
+{
+    let n = places.len();
+    if 8 <= n && w - places[n - 8] == 8 {
+        return n - 8;
+    }
+    if 6 <= n && w - places[n - 6] == 6 {
+        return n - 6;
+    }
+    if 4 <= n && w - places[n - 4] == 4 {
+        return n - 4;
+    }
+    n
+}
+
+// Adds a sample to the stored rows of the columns at four places, from place m on. The places from number h on lie side
+// by side, as `run_from` has them.
 pub(crate) fn add_four_rows(
     acc: &mut [f64],
     places: &[usize],
     values: &[f64],
     starts: &[usize],
     m: usize,
+    h: usize,
 )
     requires { ⌜ ((ext : List Float)
         × Addable ext (now acc) (now places) (now values) (now starts)
+        × RunFrom (length ext) (now places) h
         × (m + 3 < length (now places))
         × (getD (now places) (m + 3) 0 + 1 < length ext)) ⌝ }
     ensures { λ _. ⌜ ((ext : List Float)
         → Addable ext (now (acc .entry)) (now (places .entry)) (now (values .entry)) (now (starts .entry))
+        → RunFrom (length ext) (now (places .entry)) h
         → getD (now (places .entry)) (m + 3) 0 + 1 < length ext
         → Gained ext
         (getD (now (places .entry)) m 0)
@@ -141,6 +207,11 @@ pub(crate) fn add_four_rows(
     add_first(acc, places[m], places[m + 1], four);
     add_third(acc, places[m + 2], four);
     let from = m + 3;
+    if from < h && h < places.len() {
+        add_columns(acc, &places[from..h], &values[from..h], four);
+        add_runs(acc, places[h], &values[h..], four);
+        return;
+    }
     add_columns(acc, &places[from..], &values[from..], four);
 }
 

@@ -22,6 +22,7 @@ ghost use Rattle.regression.specs.Sparse.{
 };
 use crate::block::add_four_rows;
 use crate::block::add_one_row;
+use crate::block::run_from;
 
 // Whether no cell is a NaN or an infinity: times 0.0 such a cell is a NaN, and any other a zero.
 pub(crate) fn all_finite(cells: &[f64]) -> bool
@@ -98,10 +99,11 @@ pub(crate) fn add_listed(
         → r ≡ length (nonzeroColumns ext)) ⌝ }
 {
     let k = columns(places.len(), target);
+    let h = run_from(places, w);
     let mut m = 0usize;
     while m < k {
         if m + 4 <= k {
-            add_four_rows(acc, places, values, starts, m);
+            add_four_rows(acc, places, values, starts, m, h);
             m += 4;
         } else {
             add_one_row(acc, places, values, starts, m);

@@ -48,7 +48,8 @@ shared-slice-read-base-2 : tie.Need-shared-slice-read-base-2
 shared-slice-read-base-2 c = search needs
 
 base-requires-2 : tie.Need-base-requires-2
-base-requires-2 c κs = let s = c .before .before .before .before .before .before in s .pre .1 (s .args .m + 1) (omega arith) (omega arith)
+base-requires-2 c κs =
+    let s = c .before .before .before .before .before .before in s .pre .1 (s .args .m + 1) (omega arith) (omega arith)
 
 add-base-2 : tie.Need-add-base-2
 add-base-2 c = search needs
@@ -60,7 +61,9 @@ shared-slice-read-base-3 : tie.Need-shared-slice-read-base-3
 shared-slice-read-base-3 c = search needs
 
 base-requires-3 : tie.Need-base-requires-3
-base-requires-3 c κs = let s = c .before .before .before .before .before .before .before .before in s .pre .1 (s .args .m + 2) (omega arith) (omega arith)
+base-requires-3 c κs =
+    let s = c .before .before .before .before .before .before .before .before in
+    s .pre .1 (s .args .m + 2) (omega arith) (omega arith)
 
 add-base-3 : tie.Need-add-base-3
 add-base-3 c = search needs
@@ -72,7 +75,9 @@ shared-slice-read-base-4 : tie.Need-shared-slice-read-base-4
 shared-slice-read-base-4 c = search needs
 
 base-requires-4 : tie.Need-base-requires-4
-base-requires-4 c κs = let s = c .before .before .before .before .before .before .before .before .before .before in s .pre .1 (s .args .m + 3) (omega arith) (omega arith)
+base-requires-4 c κs =
+    let s = c .before .before .before .before .before .before .before .before .before .before in
+    s .pre .1 (s .args .m + 3) (omega arith) (omega arith)
 
 mul-t24 : tie.Need-mul-t24
 mul-t24 c = search needs
@@ -110,9 +115,11 @@ shared-slice-read-t38 c = search needs
 returns : tie.Need-returns
 returns c =
     let d = c .before .before .before .before in
-    let s = c .before .before .before .before .before .before .before .before .before .before .before .before .before .before .before in
+    let s = c .before .before .before .before .before .before .before .before .before .before .before
+    .before .before .before .before in
     four-rows (now (s .args .places)) (now (s .args .values)) (now (s .args .starts)) (s .args .m) _ _ _ _
-    (d .before .before .before .before .before .before .base .ensures) (d .before .before .before .before .base2 .ensures) (d .before .before .base3 .ensures) (d .base4 .ensures)
+    (d .before .before .before .before .before .before .base .ensures) (d .before .before .before
+    .before .base2 .ensures) (d .before .before .base3 .ensures) (d .base4 .ensures)
 
 pub four-at-spec : {M : Type 1} → statement M
 four-at-spec =

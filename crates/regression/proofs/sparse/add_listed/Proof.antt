@@ -12,7 +12,8 @@ use Rattle.float.specs.Value.{isZero}
 use Rattle.matrix.specs.Rows.{flat}
 use Rattle.regression.specs.Falling.{fallingRows, fallingStart}
 use Rattle.regression.specs.Triangle.{addTriangleBy}
-use Rattle.regression.specs.Sparse.{ListedRow, plusNonzero, Addable, Gained}
+use Rattle.regression.specs.Sparse.{ListedRow, plusNonzero, Addable, RunFrom, Gained}
+use Rattle.regression.proofs.Begun.{within-row}
 use Rattle.regression.proofs.Walk.{Walked, walk-begins, block-walked, all-walked, columns-are, in-rows, few}
 use Rattle.regression.proofs.Walk.{target, count-kinds}
 use borrow.Author.Needs.{needs}
@@ -20,13 +21,13 @@ use Rattle.regression.proofs.sparse.add_listed.Statement.{statement}
 use Rattle.regression.proofs.sparse.add_listed.Tie as tie
 
 abbrev Inv-loop : tie.InvT-loop
-Inv-loop acc₀ w target places values starts k m₀ acc m =
+Inv-loop acc₀ w target places values starts k h m₀ acc m =
     (m ≤ k)
     × (length acc ≡ length acc₀)
     × ((ext : List Float) → ListedRow w target places values ext → Walked ext acc₀ places k acc m)
 
 abbrev μ-loop : tie.MeasureT-loop
-μ-loop acc₀ w target places values starts k m₀ acc m = k - m
+μ-loop acc₀ w target places values starts k h m₀ acc m = k - m
 
 -- what was passed, and what is known of a sample that is listed
 module _ (o : tie.After-columns Inv-loop μ-loop) where
@@ -97,6 +98,12 @@ module _ (o : tie.After-columns Inv-loop μ-loop) where
   below : k ≤ length places
   below = few one acc₀ places values starts (addable one listed acc₀ refl) (some one listed) k (columns-is one listed)
 
+-- the places at the end that lie side by side
+run : (r : tie.After-run-from Inv-loop μ-loop) (ext : List Float)
+    → ListedRow (s (r .before) .args .w) (s (r .before) .args .target) (places (r .before)) (values (r .before)) ext
+    → RunFrom (length ext) (places (r .before)) (r .run-from .result)
+run r ext g = rw (sym (g .wide)) at (r .run-from .ensures)
+
 columns-requires : tie.Need-columns-requires Inv-loop μ-loop
 columns-requires c κs =
     let s = c .before .before .before .before in
@@ -107,25 +114,34 @@ columns-requires c κs =
     let m = rw target at (count-kinds ext (omega (arith, g .wide, g .some))) in
     omega (arith, ap length (g .listed .places-are), m)
 
+run-from-requires : tie.Need-run-from-requires Inv-loop μ-loop
+run-from-requires c κs =
+    λ p l.
+    let g = listed c in
+    rw (sym (g .wide))
+    (within-row (one c) (acc₀ c) (addable c (one c) g (acc₀ c) refl .whole) (places c) (values c) (g .listed) p l)
+
 loop-holds : tie.Need-loop-holds Inv-loop μ-loop
-loop-holds c = (omega arith, refl, begins c)
+loop-holds c = (omega arith, refl, begins (c .before))
 
 add-if1 : tie.Need-add-if1 Inv-loop μ-loop
-add-if1 c = omega (arith, below (c .before .before))
+add-if1 c = omega (arith, below (c .before .before .before))
 
 add-four-rows-requires : tie.Need-add-four-rows-requires Inv-loop μ-loop
 add-four-rows-requires c κs =
-    let o = c .before .before .before .before in
+    let r = c .before .before .before .before in
+    let o = r .before in
     let l = c .before .before .before .loop in
     let m = l .m in (
       one o,
       addable o (one o) (listed o) (l .acc) (l .inv .1),
+      run r (one o) (listed o),
       omega (arith, below o),
       row o (one o) (listed o) (m + 3) (omega arith),
     )
 
 add-m : tie.Need-add-m Inv-loop μ-loop
-add-m c = omega (arith, below (c .before .before .before .before .before .before .before))
+add-m c = omega (arith, below (c .before .before .before .before .before .before .before .before))
 
 loop-less : tie.Need-loop-less Inv-loop μ-loop
 loop-less c = omega arith
@@ -133,7 +149,7 @@ loop-less c = omega arith
 loop-again : tie.Need-loop-again Inv-loop μ-loop
 loop-again c =
     let d = c .before .before in
-    let o = d .before .before .before .before .before in
+    let o = d .before .before .before .before .before .before in
     let l = d .before .before .before .before .loop in (
       omega arith,
       d .add-four-rows .kept .0 ∙ l .inv .1,
@@ -141,13 +157,14 @@ loop-again c =
           subst (Walked ext (acc₀ o) (places o) (k o) (d .add-four-rows .last .0)) {x = l .m + 3 + 1} {y = l .m + 4}
           (omega arith)
           (goes-on o ext g (l .acc) (d .add-four-rows .last .0) (l .m) 3 (l .inv .2 ext g) (omega arith)
-          (d .add-four-rows .ensures ext (addable o ext g (l .acc) (l .inv .1))
+          (d .add-four-rows .ensures ext (addable o ext g (l .acc) (l .inv .1)) (run (d .before .before
+          .before .before .before) ext g)
           (row o ext g (l .m + 3) (omega arith)))),
     )
 
 add-one-row-requires : tie.Need-add-one-row-requires Inv-loop μ-loop
 add-one-row-requires c κs =
-    let o = c .before .before .before .before in
+    let o = c .before .before .before .before .before in
     let l = c .before .before .before .loop in (
       one o,
       addable o (one o) (listed o) (l .acc) (l .inv .1),
@@ -156,7 +173,7 @@ add-one-row-requires c κs =
     )
 
 add-m-2 : tie.Need-add-m-2 Inv-loop μ-loop
-add-m-2 c = omega (arith, below (c .before .before .before .before .before .before .before))
+add-m-2 c = omega (arith, below (c .before .before .before .before .before .before .before .before))
 
 loop-less-2 : tie.Need-loop-less-2 Inv-loop μ-loop
 loop-less-2 c = omega arith
@@ -164,7 +181,7 @@ loop-less-2 c = omega arith
 loop-again-2 : tie.Need-loop-again-2 Inv-loop μ-loop
 loop-again-2 c =
     let d = c .before .before in
-    let o = d .before .before .before .before .before in
+    let o = d .before .before .before .before .before .before in
     let l = d .before .before .before .before .loop in (
       omega arith,
       d .add-one-row .kept .0 ∙ l .inv .1,
@@ -183,7 +200,7 @@ same-length c = c .before .loop .inv .1
 
 returns : tie.Need-returns Inv-loop μ-loop
 returns c =
-    let o = c .before .before in
+    let o = c .before .before .before in
     let l = c .before .loop in (
       λ ext g. ends o ext g (l .acc) (l .m) (l .inv .2 ext g) (omega arith),
       λ ext g.
@@ -198,6 +215,7 @@ add-listed-spec =
     Inv-loop
     μ-loop
     columns-requires
+    run-from-requires
     loop-holds
     add-if1
     add-four-rows-requires
