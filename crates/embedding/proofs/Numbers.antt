@@ -1,5 +1,5 @@
--- Whole numbers as cells: which are zero, their quotients, and the places and the values of such cells when each is
--- divided by the same number.
+-- Whole numbers as cells: which are zero, their quotients, and which of such cells are zero when each is divided by the
+-- same number.
 use mathlib.Core.Path.{_≡_, refl, sym, ap, _∙_}
 use mathlib.Core.Bool.{Bool, true, false, cond, false≢true}
 use mathlib.Core.List.{List, [], _∷_, map}
@@ -20,8 +20,8 @@ use borrow.Author.Tests.{ne-eqb}
 use Rattle.float.specs.Number.{number}
 use Rattle.float.specs.Value.{isZero, notMinusZero}
 use Rattle.float.proofs.Zeros.{round-zero, round-something}
-use Rattle.matrix.specs.Nonzero.{nonzeros, nonzeroCells}
 use Rattle.embedding.specs.Design.{share}
+use Rattle.embedding.specs.Listing.{seenIn}
 
 -- ---- which whole numbers are zero
 
@@ -118,36 +118,9 @@ share-zero n (suc c) h l m =
 
 -- ---- a row of shares
 
--- the shares of the counts that are not zero are those that are not, at the same places of their block
-module _ (n : ℕ) (h : 0 < n) (l : n ≤ 2 ^ 53) where
-  pub share-places : (at j : ℕ) (cs : List ℕ) → ((k : ℕ) → getD cs k 0 ≤ 2 ^ 53)
-      → nonzeros (at + j) (map (share n) cs) ≡ map (λ k. at + k) (nonzeros j (map number cs))
-  unfolding nonzeros
-  share-places at j [] b = refl
-  share-places at j (c ∷ cs) b =
-      rw (share-zero n c h l (b 0))
-      (by (isZero (number c))
-      (ap (λ (k : ℕ). nonzeros k (map (share n) cs)) {x = suc (at + j)} {y = at + suc j} (omega arith)
-      ∙ share-places at (suc j) cs (λ k. b (suc k))))
-    where
-      by : (z : Bool) → nonzeros (suc (at + j)) (map (share n) cs)
-          ≡ map (λ k. at + k) (nonzeros (suc j) (map number cs))
-          → cond z (nonzeros (suc (at + j)) (map (share n) cs)) ((at + j) ∷ nonzeros (suc (at + j)) (map (share n) cs))
-          ≡ map (λ k. at + k) (cond z (nonzeros (suc j) (map number cs)) (j ∷ nonzeros (suc j) (map number cs)))
-      by true e = e
-      by false e = ap (λ (t : List ℕ). (at + j) ∷ t) e
-
-  pub share-cells : (cs : List ℕ) → ((k : ℕ) → getD cs k 0 ≤ 2 ^ 53)
-      → nonzeroCells (map (share n) cs) ≡ map (λ x. div binary64 x (number n)) (nonzeroCells (map number cs))
-  unfolding nonzeroCells
-  share-cells [] b = refl
-  share-cells (c ∷ cs) b =
-      rw (share-zero n c h l (b 0)) (by (isZero (number c)) (share-cells cs (λ k. b (suc k))))
-    where
-      by : (z : Bool) → nonzeroCells (map (share n) cs)
-          ≡ map (λ x. div binary64 x (number n)) (nonzeroCells (map number cs))
-          → cond z (nonzeroCells (map (share n) cs)) (share n c ∷ nonzeroCells (map (share n) cs))
-          ≡ map (λ x. div binary64 x (number n))
-          (cond z (nonzeroCells (map number cs)) (number c ∷ nonzeroCells (map number cs)))
-      by true e = e
-      by false e = ap (λ (t : List Float). share n c ∷ t) e
+-- the shares that are not zero are those of the counts that are not
+pub shares-seen : (n : ℕ) → 0 < n → n ≤ 2 ^ 53 → (cs : List ℕ) → ((k : ℕ) → getD cs k 0 ≤ 2 ^ 53)
+    → seenIn (map (share n) cs) ≡ seenIn (map number cs)
+unfolding seenIn
+shares-seen n h l [] b = refl
+shares-seen n h l (c ∷ cs) b = rw (share-zero n c h l (b 0), shares-seen n h l cs (λ k. b (suc k)))

@@ -157,23 +157,34 @@ lowest-cleared t i =
 
 -- ---- reading the digits off
 
--- The cells from j on are left: their digits, and the places and the values that are listed before theirs.
-pub record Left (counts : List Float) (places : List ℕ) (values : List Float) (n left : ℕ) : Type 0 where
+-- Cells are listed behind the first n₀ places and values, the first cell at place `at`. Those from j on are left: their
+-- digits, and the places and the values that are listed before theirs.
+pub record Left
+    (at : ℕ)
+    (cells : List Float)
+    (n₀ : ℕ)
+    (places₀ : List ℕ)
+    (values₀ : List Float)
+    (places : List ℕ)
+    (values : List Float)
+    (n left : ℕ)
+    : Type 0 where
   pub j : ℕ
-  pub digits : left ≡ seenIn (drop j counts) * 2 ^ j
-  pub places-are : nonzeros 0 counts ≡ take n places ++ nonzeros j (drop j counts)
-  pub values-are : nonzeroCells counts ≡ take n values ++ nonzeroCells (drop j counts)
-  pub count : n + length (nonzeros j (drop j counts)) ≡ length (nonzeros 0 counts)
+  pub digits : left ≡ seenIn (drop j cells) * 2 ^ j
+  pub places-are : take n₀ places₀ ++ nonzeros at cells ≡ take n places ++ nonzeros (at + j) (drop j cells)
+  pub values-are : take n₀ values₀ ++ nonzeroCells cells ≡ take n values ++ nonzeroCells (drop j cells)
+  pub count : n + length (nonzeros (at + j) (drop j cells)) ≡ n₀ + length (nonzeros at cells)
 
-pub all-left : (counts : List Float) (places : List ℕ) (values : List Float)
-    → Left counts places values 0 (seenIn counts)
-all-left counts places values =
-    record { j = 0; digits = sym (mul-one (seenIn counts)); places-are = refl; values-are = refl; count = omega arith }
+pub all-left : (at : ℕ) (cells : List Float) (n : ℕ) (places : List ℕ) (values : List Float)
+    → Left at cells n places values places values n (seenIn cells)
+all-left at cells n places values =
+    let e : at + 0 ≡ at = omega arith in
+    record { j = 0; digits = sym (mul-one (seenIn cells)); places-are = rw e; values-are = refl; count = rw e }
 
-module _ (counts : List Float) (places : List ℕ) (values : List Float) (n left : ℕ)
-    (l : Left counts places values n left) where
+module _ {at : ℕ} {cells : List Float} {n₀ : ℕ} {places₀ : List ℕ} {values₀ : List Float} {places : List ℕ}
+    {values : List Float} {n left : ℕ} (l : Left at cells n₀ places₀ values₀ places values n left) where
   abbrev rest : List Float
-  rest = drop (l .j) counts
+  rest = drop (l .j) cells
 
   nothing : left ≡ 0 → seenIn rest ≡ 0
   nothing e = by (seenIn rest) (sym (l .digits) ∙ e)
@@ -185,13 +196,12 @@ module _ (counts : List Float) (places : List ℕ) (values : List Float) (n left
           absurd (omega arith)
 
   -- where no digit is left, all are listed
-  pub none-left : (places₀ : List ℕ) (values₀ : List Float) → left ≡ 0
-      → Appended 0 counts 0 n places₀ places values₀ values
-  none-left places₀ values₀ e =
-      let none = none-seen (l .j) rest (nothing e) in
-      let k : length (nonzeros (l .j) rest) ≡ 0 = ap length (none .0) in
+  pub none-left : left ≡ 0 → Appended at cells n₀ n places₀ places values₀ values
+  none-left e =
+      let none = none-seen (at + l .j) rest (nothing e) in
+      let k : length (nonzeros (at + l .j) rest) ≡ 0 = ap length (none .0) in
       record {
-        few = omega (arith, l .count, nonzeros-few 0 counts);
+        few = omega (arith, l .count, nonzeros-few at cells);
         count = omega (arith, l .count);
         places-are =
             sym (l .places-are ∙ ap (λ (t : List ℕ). take n places ++ t) (none .0) ∙ append-nil (take n places));
@@ -200,9 +210,9 @@ module _ (counts : List Float) (places : List ℕ) (values : List Float) (n left
       }
 
   -- else the lowest is the first cell's that is left
-  module _ (some : left ≡ 0 → ⊥) (most : length counts ≤ 32) where
-    first : Lowest (l .j) rest
-    first = lowest (l .j) rest (λ e. some (l .digits ∙ ap (λ (k : ℕ). k * 2 ^ l .j) e ∙ zero-mul (2 ^ l .j)))
+  module _ (some : left ≡ 0 → ⊥) (most : length cells ≤ 32) where
+    first : Lowest (at + l .j) rest
+    first = lowest (at + l .j) rest (λ e. some (l .digits ∙ ap (λ (k : ℕ). k * 2 ^ l .j) e ∙ zero-mul (2 ^ l .j)))
 
     abbrev place : ℕ
     place = l .j + first .p
@@ -210,10 +220,10 @@ module _ (counts : List Float) (places : List ℕ) (values : List Float) (n left
     abbrev next : ℕ
     next = l .j + suc (first .p)
 
-    further : drop (suc (first .p)) rest ≡ drop next counts
-    further = drop-drop (suc (first .p)) (l .j) counts
+    further : drop (suc (first .p)) rest ≡ drop next cells
+    further = drop-drop (suc (first .p)) (l .j) cells
 
-    odd : left ≡ (2 * seenIn (drop next counts) + 1) * 2 ^ place
+    odd : left ≡ (2 * seenIn (drop next cells) + 1) * 2 ^ place
     odd =
         let s = 2 * seenIn (drop (suc (first .p)) rest) + 1 in
         l .digits
@@ -222,49 +232,53 @@ module _ (counts : List Float) (places : List ℕ) (values : List Float) (n left
         ∙ ap (λ (k : ℕ). s * k) (mul-comm (2 ^ first .p) (2 ^ l .j) ∙ sym (pow-add 2 (l .j) (first .p)))
         ∙ ap (λ (t : List Float). (2 * seenIn t + 1) * 2 ^ place) further
 
-    inside : place < length counts
-    inside = omega (arith, first .within, length-drop (l .j) counts)
+    inside : place < length cells
+    inside = omega (arith, first .within, length-drop (l .j) cells)
 
     lowest-place : trailingZeros 32 left ≡ place
     lowest-place =
         ap (trailingZeros 32) odd
-        ∙ zeros-below (2 * seenIn (drop next counts) + 1) place 32 (omega arith) (omega (arith, inside))
+        ∙ zeros-below (2 * seenIn (drop next cells) + 1) place 32 (omega arith) (omega (arith, inside))
 
-    pub place-inside : trailingZeros 32 left < length counts
+    pub place-inside : trailingZeros 32 left < length cells
     place-inside = rw lowest-place inside
 
-    pub room : n < length counts
-    room =
-        omega
-        (arith, l .count, nonzeros-few 0 counts, ap length (first .places))
+    pub room : n < n₀ + length cells
+    room = omega (arith, l .count, nonzeros-few at cells, ap length (first .places))
+
+    here : nonzeros (at + l .j) rest ≡ (at + place) ∷ nonzeros (at + next) (drop next cells)
+    here =
+        first .places
+        ∙ ap₂ (λ (a b : ℕ). a ∷ nonzeros b (drop (suc (first .p)) rest))
+        {x = at + l .j + first .p} {y = at + place} {u = at + l .j + suc (first .p)} {v = at + next}
+        (omega arith) (omega arith)
+        ∙ ap (λ (t : List Float). (at + place) ∷ nonzeros (at + next) t) further
 
     more : {A : Type 0} (after : List A) (old : List A) (x : A) → n < length old
         → take n old ++ x ∷ after ≡ take (n + 1) (set old n x) ++ after
     more after old x h =
         rw (add-one n, take-suc-set old n x h) (sym (append-snoc (take n old) x after))
 
-    pub one-less : n < length places → n < length values
-        → Left counts (set places n (trailingZeros 32 left)) (set values n (getD counts (trailingZeros 32 left) nan))
-        (n + 1) (bitAnd left (left - 1))
-    one-less h k = rw lowest-place (record {
+    -- its place q and its value x are stored
+    pub one-less : (q : ℕ) (x : Float) → q ≡ at + trailingZeros 32 left → x ≡ getD cells (trailingZeros 32 left) nan
+        → n < length places → n < length values
+        → Left at cells n₀ places₀ values₀ (set places n q) (set values n x) (n + 1) (bitAnd left (left - 1))
+    one-less q x e f h k = rw (e, f, lowest-place) (record {
       j = next;
       digits =
           ap (λ (m : ℕ). bitAnd m (m - 1)) odd
-          ∙ lowest-cleared (seenIn (drop next counts)) place
-          ∙ ap (λ (m : ℕ). seenIn (drop next counts) * 2 ^ m) {x = suc place} {y = next} (omega arith);
+          ∙ lowest-cleared (seenIn (drop next cells)) place
+          ∙ ap (λ (m : ℕ). seenIn (drop next cells) * 2 ^ m) {x = suc place} {y = next} (omega arith);
       places-are =
           l .places-are
-          ∙ ap (λ (t : List ℕ). take n places ++ t)
-          (first .places ∙ ap (λ (t : List Float). place ∷ nonzeros next t) further)
-          ∙ more (nonzeros next (drop next counts)) places place h;
+          ∙ ap (λ (t : List ℕ). take n places ++ t) here
+          ∙ more (nonzeros (at + next) (drop next cells)) places (at + place) h;
       values-are =
           l .values-are
           ∙ ap (λ (t : List Float). take n values ++ t)
           (first .cells
           ∙ ap₂ (λ (x : Float) (t : List Float). x ∷ nonzeroCells t)
-          (getD-drop (l .j) counts (first .p) nan) further)
-          ∙ more (nonzeroCells (drop next counts)) values (getD counts place nan) k;
-      count =
-          omega
-          (arith, l .count, ap length (first .places), ap (λ (t : List Float). length (nonzeros next t)) further);
+          (getD-drop (l .j) cells (first .p) nan) further)
+          ∙ more (nonzeroCells (drop next cells)) values (getD cells place nan) k;
+      count = omega (arith, l .count, ap length here);
     })

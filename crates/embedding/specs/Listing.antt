@@ -1,9 +1,9 @@
 -- Listing the cells of a row that are not zero, one block of the row after the other. Definitions only.
 use mathlib.Core.Path.{_≡_}
 use mathlib.Core.Bool.{cond}
-use mathlib.Core.List.{List, [], _∷_, _++_}
+use mathlib.Core.List.{List, [], _∷_, _++_, map}
 use Prim.Native.Nat.{ℕ, _+_, _*_, _≤_}
-use lib.Ieee.{Float}
+use lib.Ieee.{Float, binary64, div}
 use lib.ListN.{length, take}
 use Rattle.float.specs.Value.{isZero}
 use Rattle.matrix.specs.Nonzero.{nonzeros, nonzeroCells}
@@ -26,3 +26,7 @@ pub record Appended
 unfoldable pub seenIn : List Float → ℕ
 seenIn [] = 0
 seenIn (x ∷ xs) = cond (isZero x) 0 1 + 2 * seenIn xs
+
+-- cells, each divided by the same number
+abbrev pub divided : Float → List Float → List Float
+divided whole cells = map (λ x. div binary64 x whole) cells

@@ -2,11 +2,10 @@
 ghost use mathlib.Core.Path.{_≡_};
 ghost use mathlib.Core.List.{_++_, _∷_, [], map};
 ghost use Prim.Native.Nat.{_≤_, _<_, _^_, _+_};
-ghost use lib.Ieee.{div, binary64};
-ghost use lib.ListN.{length, take, getD, replicate};
+ghost use lib.ListN.{length, take, replicate};
 ghost use Rattle.float.specs.Number.{number, zero64};
 ghost use Rattle.embedding.specs.Design.{columnCounts};
-ghost use Rattle.embedding.specs.Listing.{Appended, seenIn};
+ghost use Rattle.embedding.specs.Listing.{Appended, seenIn, divided};
 
 // Lists the cell at place `at`, unless it is zero. The first n are listed already.
 pub(crate) fn list_cell(
@@ -104,23 +103,31 @@ pub(crate) fn list_counts(
     n
 }
 
-// Lists the n listed counts again, each divided by `whole` and 22 places further on.
-pub(crate) fn list_shares(whole: f64, places: &mut [usize], values: &mut [f64], n: usize) -> usize
-    requires { ⌜ (n + n ≤ length (now places)) × (n + n ≤ length (now values)) ⌝ }
-    requires { ⌜ ((k : Prim.Native.Nat.ℕ) → k < n → getD (now places) k 0 < 22) ⌝ }
-    ensures { λ r. ⌜ r ≡ n + n ⌝ }
-    ensures { λ r. ⌜ take r (now (places .exit))
-        ≡ take n (now (places .entry)) ++ map (λ k. 22 + k) (take n (now (places .entry))) ⌝ }
-    ensures { λ r. ⌜ take r (now (values .exit))
-        ≡ take n (now (values .entry)) ++ map (λ x. div binary64 x whole) (take n (now (values .entry))) ⌝ }
+// Lists the shares of the counts, each divided by `whole`, whose bits are in `seen`, 22 places further on than the
+// counts. The first n are listed already.
+pub(crate) fn list_shares(
+    seen: u32,
+    counts: &[f64],
+    whole: f64,
+    places: &mut [usize],
+    values: &mut [f64],
+    n: usize,
+) -> usize
+    requires { ⌜ (seen ≡ seenIn (divided whole (now counts))) × (length (now counts) ≡ 22) ⌝ }
+    requires { ⌜ (n + 22 ≤ length (now places)) × (n + 22 ≤ length (now values)) ⌝ }
+    ensures { λ r. ⌜ Appended 22 (divided whole (now (counts .entry))) n r
+        (now (places .entry)) (now (places .exit)) (now (values .entry)) (now (values .exit)) ⌝ }
 {
-    let mut p = 0;
-    while p < n {
-        places[n + p] = 22 + places[p];
-        values[n + p] = values[p] / whole;
-        p += 1;
+    let mut m = n;
+    let mut left = seen;
+    while left != 0 {
+        let k = u32::trailing_zeros(left) as usize;
+        places[m] = 22 + k;
+        values[m] = counts[k] / whole;
+        left = left & (left - 1);
+        m += 1;
     }
-    n + n
+    m
 }
 
 // Lists 1.0 at two places. The first n are listed already.

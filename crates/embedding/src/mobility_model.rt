@@ -198,7 +198,8 @@ fn list_composition(
 {
     let seen = count(letters, counts);
     let n = list_counts(seen, counts, places, values);
-    list_shares(float::u32_to_f64(letters.len() as u32), places, values, n)
+    let whole = float::u32_to_f64(letters.len() as u32);
+    list_shares(seen, counts, whole, places, values, n)
 }
 
 // Lists the counts of the N-terminal and of the C-terminal residues. The first n are listed already.

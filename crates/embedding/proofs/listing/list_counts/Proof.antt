@@ -16,7 +16,9 @@ use Rattle.embedding.proofs.listing.list_counts.Tie as tie
 
 abbrev Inv-loop : tie.InvT-loop
 Inv-loop seen counts places₀ values₀ n₀ left₀ places values n left =
-    Left counts places values n left × (length places ≡ length places₀) × (length values ≡ length values₀)
+    Left 0 counts 0 places₀ values₀ places values n left
+    × (length places ≡ length places₀)
+    × (length values ≡ length values₀)
 
 abbrev μ-loop : tie.MeasureT-loop
 μ-loop seen counts places₀ values₀ n₀ left₀ places values n left = left
@@ -24,7 +26,7 @@ abbrev μ-loop : tie.MeasureT-loop
 loop-holds : tie.Need-loop-holds Inv-loop μ-loop
 loop-holds c =
     let a = c .args in
-    (rw (c .pre .0 .0) (all-left (now (a .counts)) (now (a .places)) (now (a .values))), refl, refl)
+    (rw (c .pre .0 .0) (all-left 0 (now (a .counts)) 0 (now (a .places)) (now (a .values))), refl, refl)
 
 -- what is known in the loop: the lowest digit's place, and that there is room
 module _ (c : tie.In-loop Inv-loop μ-loop) where
@@ -39,7 +41,7 @@ module _ (c : tie.In-loop Inv-loop μ-loop) where
       omega (
         arith,
         c .before .before .pre .0 .1,
-        place-inside list _ _ _ _ (c .before .loop .inv .0) (c .loop-test .taken) most,
+        place-inside (c .before .loop .inv .0) (c .loop-test .taken) most,
       )
 
   few : c .before .loop .n < 22
@@ -47,7 +49,7 @@ module _ (c : tie.In-loop Inv-loop μ-loop) where
       omega (
         arith,
         c .before .before .pre .0 .1,
-        room list _ _ _ _ (c .before .loop .inv .0) (c .loop-test .taken) most,
+        room (c .before .loop .inv .0) (c .loop-test .taken) most,
       )
 
 cast-k : tie.Need-cast-k Inv-loop μ-loop
@@ -87,7 +89,7 @@ loop-again : tie.Need-loop-again Inv-loop μ-loop
 loop-again c =
     let at = c .before .before in
     let f = few (c .before) in (
-      one-less (list (c .before)) _ _ _ _ (at .loop .inv .0) (c .before .loop-test .taken) (most (c .before))
+      one-less (at .loop .inv .0) (c .before .loop-test .taken) (most (c .before)) _ _ (omega arith) refl
           (omega arith) (omega arith),
       simp length-set (at .loop .inv .1),
       simp length-set (at .loop .inv .2),
@@ -100,7 +102,7 @@ same-length-2 : tie.Need-same-length-2 Inv-loop μ-loop
 same-length-2 c = search needs
 
 returns : tie.Need-returns Inv-loop μ-loop
-returns c = none-left _ _ _ _ _ (c .before .loop .inv .0) _ _ (c .loop-test .left)
+returns c = none-left (c .before .loop .inv .0) (c .loop-test .left)
 
 pub list-counts-spec : {M : Type 1} → statement M
 list-counts-spec =

@@ -1,130 +1,100 @@
--- `embedding::listing::list_shares` meets its contract. The loop's invariant: the first p are listed again, and the
--- first n are as they were.
-use mathlib.Core.Path.{_≡_, refl, sym, ap, _∙_}
-use mathlib.Core.List.{List, [], _∷_, _++_, map, append-assoc, append-nil}
-use Prim.Native.Nat.{ℕ, suc, _+_, _≤_, _<_, _-_}
-use native.Mathlib.Numerals.{add-one}
+-- `embedding::listing::list_shares` meets its contract. The loop's invariant: the shares from some place on are left,
+-- and `left` has their digits.
+use mathlib.Core.Path.{_≡_, refl, _∙_}
+use Prim.Native.Nat.{_+_, _≤_, _<_, _-_}
 use native.Mathlib.Omega.{arith}
-use lib.Ieee.{nan, binary64, div}
-use lib.ListN.{length, take, set, getD, length-set}
-use lib.Seq.{take-set-le, take-suc-set, getD-take}
+use lib.Bits.{and-le-r}
+use lib.Count.{trailingZeros}
+use lib.ListN.{length, length-map, length-set}
 use denote.Ref.{now}
-use Rattle.embedding.proofs.Counting.{map-take-suc}
+use Rattle.embedding.specs.Listing.{divided}
+use Rattle.embedding.proofs.Seen.{Left, all-left, none-left, place-inside, room, one-less}
+use Rattle.embedding.proofs.Shares.{share-at}
 use borrow.Author.Needs.{needs}
 use Rattle.embedding.proofs.listing.list_shares.Statement.{statement}
 use Rattle.embedding.proofs.listing.list_shares.Tie as tie
 
 abbrev Inv-loop : tie.InvT-loop
-Inv-loop whole places₀ values₀ n p₀ places values p =
-    (p ≤ n)
-    × (take n places ≡ take n places₀)
-    × (take n values ≡ take n values₀)
-    × (take (n + p) places ≡ take n places₀ ++ map (λ k. 22 + k) (take p places₀))
-    × (take (n + p) values ≡ take n values₀ ++ map (λ x. div binary64 x whole) (take p values₀))
+Inv-loop seen counts whole places₀ values₀ n m₀ left₀ places values m left =
+    Left 22 (divided whole counts) n places₀ values₀ places values m left
     × (length places ≡ length places₀)
     × (length values ≡ length values₀)
 
 abbrev μ-loop : tie.MeasureT-loop
-μ-loop whole places₀ values₀ n p₀ places values p = n - p
-
--- one element more, made from one of the first n
-module _ {A : Type 0} (f : A → A) (d : A) (old list : List A) (n p : ℕ) (h : p < n) (room : n + n ≤ length old)
-    (long : length list ≡ length old) (same : take n list ≡ take n old)
-    (is : take (n + p) list ≡ take n old ++ map f (take p old)) where
-  here : getD list p d ≡ getD old p d
-  here = sym (getD-take n list p d h) ∙ ap (λ (t : List A). getD t p d) same ∙ getD-take n old p d h
-
-  still : (x : A) → take n (set list (n + p) x) ≡ take n old
-  still x = take-set-le n list (n + p) x (omega arith) ∙ same
-
-  more : take (n + (p + 1)) (set list (n + p) (f (getD list p d))) ≡ take n old ++ map f (take (p + 1) old)
-  more =
-      let e : n + (p + 1) ≡ suc (n + p) = omega arith in
-      rw (e, here, add-one p)
-      (take-suc-set list (n + p) (f (getD old p d)) (omega arith)
-      ∙ ap (λ (t : List A). t ++ f (getD old p d) ∷ []) is
-      ∙ append-assoc (take n old) (map f (take p old)) (f (getD old p d) ∷ [])
-      ∙ ap (λ (t : List A). take n old ++ t) (map-take-suc f old p d (omega arith)))
+μ-loop seen counts whole places₀ values₀ n m₀ left₀ places values m left = left
 
 loop-holds : tie.Need-loop-holds Inv-loop μ-loop
 loop-holds c =
-    let a = c .args in
-    let e : a .n + 0 ≡ a .n = omega arith in (
-      search needs,
-      refl,
-      refl,
-      rw e (sym (append-nil (take (a .n) (now (a .places))))),
-      rw e (sym (append-nil (take (a .n) (now (a .values))))),
+    let a = c .args in (
+      rw (c .pre .0 .0)
+          (all-left 22 (divided (a .whole) (now (a .counts))) (a .n) (now (a .places)) (now (a .values))),
       refl,
       refl,
     )
 
-mul-places : tie.Need-mul-places Inv-loop μ-loop
-mul-places c = search needs
+-- what is known in the loop: the lowest digit's place, and that there is room
+module _ (c : tie.In-loop Inv-loop μ-loop) where
+  abbrev s : tie.Start Inv-loop μ-loop
+  s = c .before .before
 
-slice-read-places : tie.Need-slice-read-places Inv-loop μ-loop
-slice-read-places c = search needs
+  size : length (divided (s .args .whole) (now (s .args .counts))) ≡ 22
+  size = length-map (now (s .args .counts)) _ ∙ s .pre .0 .1
+
+  most : length (divided (s .args .whole) (now (s .args .counts))) ≤ 32
+  most = omega (arith, size)
+
+  below : trailingZeros 32 (c .before .loop .left) < 22
+  below = omega (arith, size, place-inside (c .before .loop .inv .0) (c .loop-test .taken) most)
+
+  few : c .before .loop .m < s .args .n + 22
+  few = omega (arith, size, room (c .before .loop .inv .0) (c .loop-test .taken) most)
+
+cast-k : tie.Need-cast-k Inv-loop μ-loop
+cast-k c = omega (arith, below c)
 
 add-places : tie.Need-add-places Inv-loop μ-loop
-add-places c =
-    let l = c .before .before .loop in
-    let s = c .before .before .before in
-    let a = s .args in
-    let e =
-    here (λ k. 22 + k) 0 (now (a .places)) (l .places) (a .n) (l .p) (c .before .loop-test .taken) (s .pre .0 .0)
-    (l .inv .5) (l .inv .1) (l .inv .3) in
-    omega (arith, e, s .pre .1 (l .p) (c .before .loop-test .taken))
+add-places c = let f = below c in omega arith
 
-add-places-2 : tie.Need-add-places-2 Inv-loop μ-loop
-add-places-2 c = search needs
-
-mul-places-2 : tie.Need-mul-places-2 Inv-loop μ-loop
-mul-places-2 c = search needs
+mul-places : tie.Need-mul-places Inv-loop μ-loop
+mul-places c = let f = few c in omega arith
 
 slice-write-places : tie.Need-slice-write-places Inv-loop μ-loop
-slice-write-places c = search needs
+slice-write-places c = let f = few c in omega arith
 
 mul-values : tie.Need-mul-values Inv-loop μ-loop
-mul-values c = search needs
+mul-values c = let f = below c in omega arith
 
-slice-read-values : tie.Need-slice-read-values Inv-loop μ-loop
-slice-read-values c = search needs
-
-add-values : tie.Need-add-values Inv-loop μ-loop
-add-values c = search needs
+shared-slice-read-values : tie.Need-shared-slice-read-values Inv-loop μ-loop
+shared-slice-read-values c = let f = below (c .before) in omega arith
 
 mul-values-2 : tie.Need-mul-values-2 Inv-loop μ-loop
-mul-values-2 c = search needs
+mul-values-2 c = let f = few (c .before) in omega arith
 
 slice-write-values : tie.Need-slice-write-values Inv-loop μ-loop
-slice-write-values c = search needs
+slice-write-values c = let f = few (c .before) in omega arith
 
-add-p : tie.Need-add-p Inv-loop μ-loop
-add-p c = search needs
+sub-left : tie.Need-sub-left Inv-loop μ-loop
+sub-left c = search needs
+
+add-m : tie.Need-add-m Inv-loop μ-loop
+add-m c = let f = few (c .before) in omega arith
 
 loop-less : tie.Need-loop-less Inv-loop μ-loop
-loop-less c = search needs
+loop-less c =
+    let left = c .before .before .loop .left in
+    let h = c .before .loop-test .taken in
+    omega (arith, and-le-r left (left - 1))
 
 loop-again : tie.Need-loop-again Inv-loop μ-loop
 loop-again c =
-    let l = c .before .before .before .loop in
-    let s = c .before .before .before .before in
-    let a = s .args in
-    let ps = now (a .places) in
-    let vs = now (a .values) in
-    let h : l .p < a .n = c .before .before .loop-test .taken in
-    let i = l .inv in (
-      omega arith,
-      still (λ k. 22 + k) 0 ps (l .places) (a .n) (l .p) h (s .pre .0 .0) (i .5) (i .1) (i .3) _,
-      still (λ x. div binary64 x (a .whole)) nan vs (l .values) (a .n) (l .p) h (s .pre .0 .1) (i .6) (i .2) (i .4) _,
-      more (λ k. 22 + k) 0 ps (l .places) (a .n) (l .p) h (s .pre .0 .0) (i .5) (i .1) (i .3),
-      more (λ x. div binary64 x (a .whole)) nan vs (l .values) (a .n) (l .p) h (s .pre .0 .1) (i .6) (i .2) (i .4),
-      simp length-set (i .5),
-      simp length-set (i .6),
+    let at = c .before .before in
+    let a = at .before .args in
+    let f = few (c .before) in (
+      one-less (at .loop .inv .0) (c .before .loop-test .taken) (most (c .before)) _ _ refl
+          (share-at (a .whole) (now (a .counts)) _) (omega arith) (omega arith),
+      simp length-set (at .loop .inv .1),
+      simp length-set (at .loop .inv .2),
     )
-
-add-result : tie.Need-add-result Inv-loop μ-loop
-add-result c = search needs
 
 same-length : tie.Need-same-length Inv-loop μ-loop
 same-length c = search needs
@@ -133,11 +103,7 @@ same-length-2 : tie.Need-same-length-2 Inv-loop μ-loop
 same-length-2 c = search needs
 
 returns : tie.Need-returns Inv-loop μ-loop
-returns c =
-    let l = c .before .loop in
-    let a = c .before .before .args in
-    let e : l .p ≡ a .n = omega arith in
-    (refl, (rw e at (l .inv .3), rw e at (l .inv .4)))
+returns c = none-left (c .before .loop .inv .0) (c .loop-test .left)
 
 pub list-shares-spec : {M : Type 1} → statement M
 list-shares-spec =
@@ -146,21 +112,18 @@ list-shares-spec =
     Inv-loop
     μ-loop
     loop-holds
-    mul-places
-    slice-read-places
+    cast-k
     add-places
-    add-places-2
-    mul-places-2
+    mul-places
     slice-write-places
     mul-values
-    slice-read-values
-    add-values
+    shared-slice-read-values
     mul-values-2
     slice-write-values
-    add-p
+    sub-left
+    add-m
     loop-less
     loop-again
-    add-result
     same-length
     same-length-2
     returns)

@@ -1,24 +1,38 @@
 -- `embedding::mobility_model::list_composition` meets its contract: the counts, and behind them their shares.
 use mathlib.Core.Path.{ap, _∙_}
+use mathlib.Core.List.{List}
+use Prim.Native.Nat.{ℕ}
 use native.Mathlib.Omega.{arith}
 use lib.ListN.{length}
 use denote.Ref.{now}
-use Rattle.embedding.proofs.Appending.{listed-as, length-counted}
-use Rattle.embedding.proofs.Shares.{listed-below, shares-listed}
+use Rattle.embedding.proofs.Appending.{both-listed, listed-as, length-counted}
+use Rattle.embedding.proofs.Shares.{shares-are, counts-seen}
 use borrow.Author.Needs.{needs}
 use Rattle.embedding.proofs.mobility_model.list_composition.Statement.{statement}
 use Rattle.embedding.proofs.mobility_model.list_composition.Tie as tie
 use Rattle.float.proofs.u32_to_f64.Reads as u32-to-f64-reads
+
+-- places in the code, each as a later one sees it
+abbrev start : tie.After-count → tie.Start
+start c = c .before .before .before .before .before .before
+
+abbrev counted : tie.After-list-counts → tie.After-count
+counted c = c .before .before .before .before .before .before
+
+abbrev listed : tie.After-u32-to-f64 → tie.After-list-counts
+listed c = c .before .before .before .before .before
+
+abbrev letters : tie.After-count → List ℕ
+letters c = now (start c .args .letters)
 
 count-requires : tie.Need-count-requires
 count-requires c κs = search needs
 
 list-counts-requires : tie.Need-list-counts-requires
 list-counts-requires c κs =
-    let counted = c .before .before .before .before .before in
-    let s = counted .before .before .before .before .before .before in
-    let e = counted .count .ensures in
-    ((e .1, ap length (e .0) ∙ length-counted (now (s .args .letters))), (search needs, search needs))
+    let t = c .before .before .before .before .before in
+    let e = t .count .ensures in
+    ((e .1, ap length (e .0) ∙ length-counted (letters t)), (search needs, search needs))
 
 cast-u32-to-f64 : tie.Need-cast-u32-to-f64
 cast-u32-to-f64 c = search needs
@@ -28,17 +42,17 @@ u32-to-f64-requires c κs = search needs
 
 list-shares-requires : tie.Need-list-shares-requires
 list-shares-requires c κs =
-    let first = c .before .before .before .before .before .before .before in
-    let counted = first .before .before .before .before .before .before in
-    let s = counted .before .before .before .before .before .before in
-    let l = length-counted (now (s .args .letters)) in
-    let k = ap length (counted .count .ensures .0) in
-    let call = first .list-counts in (
+    let w = c .before .before .before in
+    let call = listed w .list-counts in
+    let t = counted (listed w) in
+    let s = start t in
+    let e = t .count .ensures in
+    let l = ap length (e .0) ∙ length-counted (letters t) in (
+      (e .1 ∙ counts-seen (letters t) (e .0) (w .u32-to-f64 .ensures) (s .pre .0 .0) (s .pre .0 .1), l),
       (
-        omega (arith, s .pre, call .ensures .few, call .kept .1 .1 .0),
-        omega (arith, s .pre, call .ensures .few, call .kept .1 .1 .1 .0),
+        omega (arith, s .pre, call .ensures .few, l, call .kept .1 .1 .0),
+        omega (arith, s .pre, call .ensures .few, l, call .kept .1 .1 .1 .0),
       ),
-      λ i h. omega (arith, listed-below (call .ensures) i h),
     )
 
 same-length : tie.Need-same-length
@@ -52,16 +66,13 @@ same-length-3 c = search needs
 
 returns : tie.Need-returns
 returns c =
-    let second = c .before .before .before .before in
-    let first = second .before .before .before .before .before .before .before .before in
-    let counted = first .before .before .before .before .before .before in
-    let s = counted .before .before .before .before .before .before in
-    let call = second .list-shares .ensures in
-    let e = counted .count .ensures .0 in (
+    let last = c .before .before .before .before in
+    let w = last .before .before .before .before in
+    let t = counted (listed w) in
+    let e = t .count .ensures .0 in (
       e,
-      shares-listed (now (s .args .letters)) (s .pre .0 .0) (s .pre .0 .1)
-          (listed-as e (first .list-counts .ensures)) (call .0) (call .1 .0)
-          (rw (second .before .before .before .u32-to-f64 .ensures) at (call .1 .1)),
+      both-listed (listed-as e (listed w .list-counts .ensures)) (omega (arith, length-counted (letters t)))
+          (listed-as (shares-are (letters t) e (w .u32-to-f64 .ensures)) (last .list-shares .ensures)),
     )
 
 pub list-composition-spec : {M : Type 1} → statement M
