@@ -1,4 +1,4 @@
--- Laws of listing the cells of a row that are not zero: one cell, two blocks end to end, a whole row.
+-- Laws of listing the cells of a row that are not zero: one cell, two blocks end to end, the first block.
 use mathlib.Core.Path.{_≡_, refl, sym, ap, _∙_, subst}
 use mathlib.Core.Bool.{Bool, true, false}
 use mathlib.Core.List.{List, [], _∷_, _++_, map, append-assoc, append-nil}
@@ -104,8 +104,8 @@ pub length-counted : (letters : List ℕ) → length (map number (columnCounts l
 unfolding columnCounts
 length-counted letters = refl
 
--- ---- a whole row
+-- ---- a block that is the first that is listed
 
-pub row-listed : {r : ℕ} {row : List Float} {p₀ p₁ : List ℕ} {v₀ v₁ : List Float}
-    → Appended 0 row 0 r p₀ p₁ v₀ v₁ → Nonzeros 0 row (take r p₁) (take r v₁)
-row-listed a = record { places-are = a .places-are; values-are = a .values-are }
+pub block-listed : {at r : ℕ} {cells : List Float} {p₀ p₁ : List ℕ} {v₀ v₁ : List Float}
+    → Appended at cells 0 r p₀ p₁ v₀ v₁ → Nonzeros at cells (take r p₁) (take r v₁)
+block-listed a = record { places-are = a .places-are; values-are = a .values-are }

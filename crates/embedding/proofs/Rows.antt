@@ -14,7 +14,9 @@ use Rattle.matrix.specs.Lists.{overwritten}
 use Rattle.embedding.specs.Count.{howMany, range, tallied}
 use Rattle.float.specs.Number.{number, zero64}
 use Rattle.float.proofs.Whole.{number-add}
-use Rattle.embedding.specs.Design.{everywhere, chosen, columnCounts, counts, block}
+use Rattle.embedding.specs.declared.Model.the-variants.{Retention}
+use Rattle.embedding.specs.Design.{everywhere, nTerminal, cTerminal, chosen}
+use Rattle.embedding.specs.Design.{columnCounts, counts, block, retentionRow}
 use Rattle.embedding.proofs.Counting.{counter-le, length-tally, tally-next}
 use Rattle.embedding.proofs.Positions.{chosen-everywhere}
 
@@ -150,3 +152,27 @@ made g letters cells rest back e h =
     e
     ∙ ap (λ (t : List Float). overwritten (map g t) rest) h
     ∙ ap (λ (l : List ℕ). overwritten (map g (map number (columnCounts l))) rest) (sym (chosen-everywhere letters))
+
+-- ---- the two parts of retention's row
+
+abbrev pub retentionRest : List ℕ → Float → List Float
+retentionRest letters log =
+    block nTerminal letters
+    ++ block (cTerminal Retention) letters
+    ++ number (length letters) ∷ log ∷ number 1 ∷ []
+
+pub retention-first : (letters : List ℕ) (log : Float) → take 22 (retentionRow letters log) ≡ block everywhere letters
+unfolding retentionRow
+retention-first letters log =
+    take-at (block everywhere letters) (retentionRest letters log) 22 (length-block everywhere letters)
+
+pub retention-rest : (letters : List ℕ) (log : Float) → drop 22 (retentionRow letters log) ≡ retentionRest letters log
+unfolding retentionRow
+retention-rest letters log =
+    drop-at (block everywhere letters) (retentionRest letters log) 22 (length-block everywhere letters)
+
+pub retention-whole : (letters : List ℕ) (log : Float)
+    → block everywhere letters ++ drop 22 (retentionRow letters log) ≡ retentionRow letters log
+retention-whole letters log =
+    ap (λ (t : List Float). t ++ drop 22 (retentionRow letters log)) (sym (retention-first letters log))
+    ∙ take-append-drop 22 (retentionRow letters log)

@@ -18,6 +18,11 @@ abbrev pub orderOf : Model → ℕ
 orderOf Retention = 69
 orderOf Mobility = 100
 
+-- how many of a row's first cells are written out where the rest are listed: retention's counts
+abbrev pub headOf : Model → ℕ
+headOf Retention = 22
+headOf Mobility = 0
+
 -- ---- positions, of a peptide of length n
 
 abbrev pub everywhere : ℕ → ℕ → Bool

@@ -5,7 +5,7 @@ ghost use mathlib.Core.List.{_++_};
 ghost use Prim.Native.Nat.{_≤_, _<_, _^_};
 ghost use lib.ListN.{length, take, drop};
 ghost use Rattle.matrix.specs.Nonzero.{Nonzeros};
-ghost use Rattle.embedding.specs.Design.{orderOf, design};
+ghost use Rattle.embedding.specs.Design.{orderOf, headOf, design};
 
 mod listing;
 mod mobility_model;
@@ -30,6 +30,19 @@ pub fn order(model: Model) -> usize
     match model {
         Model::Retention => retention_model::FEATURES,
         Model::Mobility => mobility_model::FEATURES,
+    }
+}
+
+// The largest of the models' heads, for arrays.
+pub const MAX_HEAD: usize = retention_model::HEAD;
+
+// How many of a row's first cells `split` writes out: retention's counts, and none of mobility's.
+pub fn head(model: Model) -> usize
+    ensures { λ r. ⌜ r ≡ headOf model ⌝ }
+{
+    match model {
+        Model::Retention => retention_model::HEAD,
+        Model::Mobility => 0,
     }
 }
 
@@ -68,6 +81,34 @@ pub fn list(
 {
     match model {
         Model::Retention => retention_model::list(letters, log, places, values),
+        Model::Mobility => mobility_model::list(letters, mass, charge, places, values),
+    }
+}
+
+// Writes the first cells of a peptide's design row into those of `head`, and lists the others that are not zero, as
+// `list` does. Answers how many are listed. For `model_fit`, as `list`, where a loop over all of retention's counts,
+// whose turns are always as many, is faster than one over those that are not zero.
+pub fn split(
+    model: Model,
+    letters: &[u8],
+    log: f64,
+    mass: f32,
+    charge: u8,
+    head: &mut [f64],
+    places: &mut [usize],
+    values: &mut [f64],
+) -> usize
+    requires { ⌜ (length (now letters) < 2 ^ 32) × (headOf model ≤ length (now head)) ⌝ }
+    requires { ⌜ (orderOf model ≤ length (now places)) × (orderOf model ≤ length (now values)) ⌝ }
+    ensures { λ r. ⌜ r ≤ orderOf model ⌝ }
+    ensures { λ _. ⌜ take (headOf model) (now (head .exit))
+        ≡ take (headOf model) (design model (now (letters .entry)) log mass charge) ⌝ }
+    ensures { λ r. ⌜ Nonzeros (headOf model)
+        (drop (headOf model) (design model (now (letters .entry)) log mass charge))
+        (take r (now (places .exit))) (take r (now (values .exit))) ⌝ }
+{
+    match model {
+        Model::Retention => retention_model::split(letters, log, head, places, values),
         Model::Mobility => mobility_model::list(letters, mass, charge, places, values),
     }
 }

@@ -1,8 +1,8 @@
 // The 69 columns of sage's retention_model.rs.
 ghost use mathlib.Core.Path.{_≡_};
 ghost use mathlib.Core.List.{_++_, _∷_, []};
-ghost use Prim.Native.Nat.{_≤_, _<_, _^_};
-ghost use lib.ListN.{length, drop};
+ghost use Prim.Native.Nat.{_≤_, _<_, _^_, _+_};
+ghost use lib.ListN.{length, take, drop};
 ghost use Rattle.float.specs.Number.{number};
 ghost use Rattle.embedding.specs.Design.{chosen, cTerminal, retentionRow};
 ghost use Rattle.embedding.specs.Listing.{Appended};
@@ -16,6 +16,9 @@ use crate::residues::n_terminal;
 use crate::residues::two_before;
 
 pub(crate) const FEATURES: usize = 69;
+
+// The counts of all letters, the first columns.
+pub(crate) const HEAD: usize = 22;
 
 // The residues at positions c and c + 1, c being the length less 3, that are not N-terminal: the last one is
 // excluded.
@@ -52,6 +55,19 @@ pub(crate) fn embed(letters: &[u8], log: f64, row: &mut [f64])
     put_scalars(letters.len() as u32, log, &mut row[66..69]);
 }
 
+// Lists the columns after the counts of all letters. The first n are listed already.
+fn list_rest(letters: &[u8], log: f64, places: &mut [usize], values: &mut [f64], n: usize) -> usize
+    requires { ⌜ length (now letters) < 2 ^ 32 ⌝ }
+    requires { ⌜ (n + 47 ≤ length (now places)) × (n + 47 ≤ length (now values)) ⌝ }
+    ensures { λ r. ⌜ Appended 22 (drop 22 (retentionRow (now (letters .entry)) log)) n r
+        (now (places .entry)) (now (places .exit)) (now (values .entry)) (now (values .exit)) ⌝ }
+{
+    let a = list_two(n_terminal(letters), 22, places, values, n);
+    let b = list_two(c_terminal(letters), 44, places, values, a);
+    let length = float::u32_to_f64(letters.len() as u32);
+    list_three(length, log, 1.0, 66, places, values, b)
+}
+
 // Lists a peptide's row.
 pub(crate) fn list(letters: &[u8], log: f64, places: &mut [usize], values: &mut [f64]) -> usize
     requires { ⌜ length (now letters) < 2 ^ 32 ⌝ }
@@ -61,9 +77,24 @@ pub(crate) fn list(letters: &[u8], log: f64, places: &mut [usize], values: &mut 
 {
     let mut counts = [0.0f64; 22];
     let seen = count(letters, &mut counts);
-    let a = list_counts(seen, &counts, places, values);
-    let b = list_two(n_terminal(letters), 22, places, values, a);
-    let c = list_two(c_terminal(letters), 44, places, values, b);
-    let length = float::u32_to_f64(letters.len() as u32);
-    list_three(length, log, 1.0, 66, places, values, c)
+    let n = list_counts(seen, &counts, places, values);
+    list_rest(letters, log, places, values, n)
+}
+
+// Writes the counts of all letters into the first cells of `head`, and lists the columns after them.
+pub(crate) fn split(
+    letters: &[u8],
+    log: f64,
+    head: &mut [f64],
+    places: &mut [usize],
+    values: &mut [f64],
+) -> usize
+    requires { ⌜ (length (now letters) < 2 ^ 32) × (22 ≤ length (now head)) ⌝ }
+    requires { ⌜ (69 ≤ length (now places)) × (69 ≤ length (now values)) ⌝ }
+    ensures { λ _. ⌜ take 22 (now (head .exit)) ≡ take 22 (retentionRow (now (letters .entry)) log) ⌝ }
+    ensures { λ r. ⌜ Appended 22 (drop 22 (retentionRow (now (letters .entry)) log)) 0 r
+        (now (places .entry)) (now (places .exit)) (now (values .entry)) (now (values .exit)) ⌝ }
+{
+    embed_part(letters, head);
+    list_rest(letters, log, places, values, 0)
 }

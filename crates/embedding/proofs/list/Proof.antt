@@ -12,7 +12,7 @@ use Rattle.embedding.specs.declared.Model.the-variants.{Retention, Mobil
 use Rattle.embedding.specs.Design.{orderOf, design}
 use Rattle.embedding.specs.Listing.{Appended}
 use Rattle.embedding.proofs.Totals.{totals}
-use Rattle.embedding.proofs.Appending.{row-listed}
+use Rattle.embedding.proofs.Appending.{block-listed}
 use borrow.Author.Needs.{needs}
 use Rattle.embedding.proofs.list.Statement.{statement}
 use Rattle.embedding.proofs.list.Tie as tie
@@ -23,7 +23,7 @@ designed : {r : ℕ} {p₀ p₁ : List ℕ} {v₀ v₁ : List Float} (m k : Mode
     → Appended 0 (design k letters log mass charge) 0 r p₀ p₁ v₀ v₁
     → (r ≤ orderOf m) × Nonzeros 0 (design m letters log mass charge) (take r p₁) (take r v₁)
 designed m k e letters log mass charge a =
-    rw e (omega (arith, a .few, totals k letters log mass charge .columns), row-listed a)
+    rw e (omega (arith, a .few, totals k letters log mass charge .columns), block-listed a)
 
 enum-told : tie.Need-enum-told
 enum-told c = search needs
