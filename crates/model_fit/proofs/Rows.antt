@@ -15,7 +15,7 @@ use Rattle.peptide.specs.Table.{Table, sequenceOf}
 use Rattle.peptide.proofs.Laws.{sequence-short}
 use Rattle.feature.specs.Feature.{trains, mask, kept}
 use Rattle.feature.proofs.Training.{length-kept, length-mask, mask-at}
-use Rattle.embedding.specs.Design.{orderOf, design}
+use Rattle.embedding.specs.Design.{orderOf, headOf, design}
 use Rattle.embedding.specs.declared.Model.{Model}
 use Rattle.embedding.specs.declared.Model.the-variants.{Retention, Mobility}
 use Rattle.embedding.proofs.Totals.{totals}
@@ -31,7 +31,16 @@ pub order-max : (model : Model) → orderOf model ≤ maxOrder
 order-max Retention = omega arith
 order-max Mobility = omega arith
 
--- and just as many as its model's order
+-- its first cells, which are written out where the others are listed, are at most retention's, and within the row
+pub head-max : (model : Model) → headOf model ≤ headOf Retention
+head-max Retention = omega arith
+head-max Mobility = omega arith
+
+pub head-order : (model : Model) → headOf model ≤ orderOf model
+head-order Retention = omega arith
+head-order Mobility = omega arith
+
+-- it has just as many columns as its model's order
 pub wide-design : (model : Model) (letters : List ℕ) (log mass : Float) (charge : ℕ)
     → length (design model letters log mass charge) ≡ orderOf model
 wide-design model letters log mass charge = totals model letters log mass charge .columns

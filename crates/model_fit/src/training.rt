@@ -7,7 +7,7 @@ ghost use lib.Ieee.{nan, binary64, sub};
 ghost use lib.ListN.{length, getD, take};
 ghost use Rattle.feature.specs.Feature.{trains};
 ghost use Rattle.status.specs.Limits.{maxLetters};
-ghost use Rattle.embedding.specs.Design.{orderOf, design};
+ghost use Rattle.embedding.specs.Design.{orderOf, headOf, design};
 ghost use Rattle.matrix.specs.Nonzero.{Nonzeros};
 ghost use Rattle.regression.specs.Regression.{extended, normal, dot, sse};
 ghost use Rattle.regression.specs.Sparse.{RowStarts, addVisited, allFinite};
@@ -225,8 +225,8 @@ fn predict_whole(model: Model, letters: &[u8], log: f64, mass: f32, charge: u8, 
 }
 
 // The prediction for a peptide's letters, log and mass and a charge, before it is clamped. `finite` says whether all
-// coefficients are. `places` and `values` are room for the cells of the design row that are not zero. For this crate
-// and the models, which have checked the table.
+// coefficients are. `head` is room for the first cells of the design row, and `places` and `values` are room for the
+// others that are not zero. For this crate and the models, which have checked the table.
 pub fn predict_peptide(
     model: Model,
     letters: &[u8],
@@ -235,10 +235,11 @@ pub fn predict_peptide(
     charge: u8,
     beta: &[f64],
     finite: bool,
+    head: &mut [f64],
     places: &mut [usize],
     values: &mut [f64],
 ) -> f64
-    requires { ⌜ length (now letters) ≤ maxLetters ⌝ }
+    requires { ⌜ (length (now letters) ≤ maxLetters) × (headOf model ≤ length (now head)) ⌝ }
     requires { ⌜ (length (now beta) ≡ orderOf model) × (finite ≡ allFinite (now beta)) ⌝ }
     requires { ⌜ (orderOf model ≤ length (now places)) × (orderOf model ≤ length (now values)) ⌝ }
     ensures { λ r. ⌜ r ≡ dot (design model (now (letters .entry)) log mass charge) (now (beta .entry)) ⌝ }
@@ -246,8 +247,9 @@ pub fn predict_peptide(
     if !finite {
         return predict_whole(model, letters, log, mass, charge, beta);
     }
-    let n = embedding::list(model, letters, log, mass, charge, places, values);
-    regression::predict_listed(&places[..n], &values[..n], beta)
+    let h = embedding::head(model);
+    let n = embedding::split(model, letters, log, mass, charge, head, places, values);
+    regression::predict_listed(&head[..h], &places[..n], &values[..n], beta)
 }
 
 // A prediction less its target.
@@ -277,6 +279,7 @@ fn sum_squares(
         (now (beta .entry))
         (trainingSamples model (modelInput peptide label q charge observed letters offsets masses logs)) ⌝ }
 {
+    let mut head = [0.0f64; embedding::MAX_HEAD];
     let mut places = [0usize; status::MAX_ORDER];
     let mut values = [0.0f64; status::MAX_ORDER];
     let finite = regression::all_finite(beta);
@@ -300,6 +303,7 @@ fn sum_squares(
             z,
             beta,
             finite,
+            &mut head,
             &mut places,
             &mut values,
         );

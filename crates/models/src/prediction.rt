@@ -72,6 +72,7 @@ pub(crate) fn write_predictions(
 {
     let hi = largest(model);
     let mut inexact = 0u32;
+    let mut head = [0.0f64; embedding::MAX_HEAD];
     let mut places = [0usize; status::MAX_ORDER];
     let mut values = [0.0f64; status::MAX_ORDER];
     let finite = regression::all_finite(beta);
@@ -90,6 +91,7 @@ pub(crate) fn write_predictions(
             z,
             beta,
             finite,
+            &mut head,
             &mut places,
             &mut values,
         );

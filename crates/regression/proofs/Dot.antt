@@ -1,20 +1,50 @@
--- A prediction over the cells of a row that are not zero: where every coefficient is finite, the products of the zeros
--- change no sum that began at +0.0.
+-- A prediction in two parts, and one over the cells of a row that are not zero: where every coefficient is finite, the
+-- products of the zeros change no sum that began at +0.0.
 use mathlib.Core.Path.{_≡_, refl, ap, _∙_}
 use mathlib.Core.Bool.{Bool, true, false, _&&_, cond, false≢true}
 use mathlib.Core.List.{List, [], _∷_, zipWith}
 use Prim.Native.Nat.{ℕ, zero, suc, _+_, _≤_, _<_}
 use native.Mathlib.Omega.{arith}
-use lib.ListN.{length, getD, drop}
+use lib.ListN.{length, getD, take, drop}
 use lib.Seq.{drop-cons}
 use lib.Ieee.{Float, nan, inf, fin, binary64, add, mul}
+use lib.Ieee.Fits.{mul-fits}
 use Rattle.float.specs.Number.{sumFrom}
 use Rattle.float.specs.Value.{isFinite, isZero, Sum}
-use Rattle.float.proofs.Zeros.{sum-product}
+use Rattle.float.proofs.Zeros.{sum-next, sum-product}
 use Rattle.status.specs.Checks.{every}
 use Rattle.status.proofs.Laws.{every-at}
 use Rattle.matrix.specs.Nonzero.{nonzeroCells}
 use Rattle.regression.specs.Sparse.{allFinite}
+
+-- ---- a sum of products
+
+pub zipWith-nil : (f : Float → Float → Float) (xs : List Float) → zipWith f xs [] ≡ []
+unfolding zipWith
+zipWith-nil f [] = refl
+zipWith-nil f (x ∷ xs) = refl
+
+-- it is one that began at +0.0 where it goes on from one
+pub products-sum : (row beta : List Float) (s : Float) → Sum s → Sum (sumFrom s (zipWith (mul binary64) row beta))
+unfolding zipWith
+products-sum [] beta s h = h
+products-sum (x ∷ row) [] s h = h
+products-sum (x ∷ row) (y ∷ beta) s h =
+    products-sum row beta (add binary64 s (mul binary64 x y))
+    (sum-next s (mul binary64 x y) h (mul-fits binary64 x y))
+
+-- the first n products, and then the others
+pub products-split : (n : ℕ) (row beta : List Float) (s : Float)
+    → sumFrom (sumFrom s (zipWith (mul binary64) (take n row) beta))
+    (zipWith (mul binary64) (drop n row) (drop n beta))
+    ≡ sumFrom s (zipWith (mul binary64) row beta)
+unfolding zipWith
+products-split zero row beta s = refl
+products-split (suc n) [] beta s = refl
+products-split (suc n) (x ∷ row) [] s = ap (sumFrom s) (zipWith-nil (mul binary64) (drop n row))
+products-split (suc n) (x ∷ row) (y ∷ beta) s = products-split n row beta (add binary64 s (mul binary64 x y))
+
+-- ---- zeros
 
 -- a zero is finite
 zero-finite : (x : Float) → isZero x ≡ true → isFinite x ≡ true

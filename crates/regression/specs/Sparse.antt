@@ -28,6 +28,13 @@ pub record ListedCells (j n : ℕ) (places : List ℕ) (values cells : List Floa
   pub wide : length cells ≡ n
   pub listed : Nonzeros j cells places values
 
+-- a row of n cells by its first cells and those of the others that are not zero
+pub record SplitRow (n : ℕ) (head : List Float) (places : List ℕ) (values row : List Float) : Type 0 where
+  pub wide : length row ≡ n
+  pub short : length head ≤ n
+  pub first : take (length head) row ≡ head
+  pub rest : Nonzeros (length head) (drop (length head) row) places values
+
 -- an extended row of w cells, the last of them the target, by its cells that are not zero
 pub record ListedRow (w : ℕ) (target : Float) (places : List ℕ) (values ext : List Float) : Type 0 where
   pub wide : length ext ≡ w

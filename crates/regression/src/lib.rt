@@ -15,9 +15,9 @@ ghost use Rattle.regression.specs.Falling.{fallingRows, fallingStart};
 ghost use Rattle.regression.specs.Triangle.{addTriangle, mirrored, unfolded};
 ghost use Rattle.regression.specs.Sparse.{
   allFinite,
-  ListedCells,
   ListedRow,
   RowStarts,
+  SplitRow,
   addVisited,
   visited,
 };
@@ -244,32 +244,40 @@ impl Sums {
     }
 }
 
-// The prediction: the sum of `row[k] * beta[k]` in column order, as far as both reach.
-pub fn predict(row: &[f64], beta: &[f64]) -> f64
+// The sum of `row[k] * beta[k]` in column order, as far as both reach.
+fn sum_products(row: &[f64], beta: &[f64]) -> f64
     ensures { λ r. ⌜ r ≡ dot (now (row .entry)) (now (beta .entry)) ⌝ }
 {
     let mut sum = 0.0;
     let mut k = 0usize;
     while k < row.len() {
         if beta.len() <= k {
-            return float::canonical64(sum);
+            return sum;
         }
         sum = sum + row[k] * beta[k];
         k += 1;
     }
-    float::canonical64(sum)
+    sum
 }
 
-// The prediction of a row by its cells that are not zero, which `places` and `values` list, where no coefficient is a
-// NaN or an infinity: a zero times a finite number adds nothing to a sum that began at +0.0.
-pub fn predict_listed(places: &[usize], values: &[f64], beta: &[f64]) -> f64
+// The prediction: the sum of `row[k] * beta[k]` in column order, as far as both reach.
+pub fn predict(row: &[f64], beta: &[f64]) -> f64
+    ensures { λ r. ⌜ r ≡ dot (now (row .entry)) (now (beta .entry)) ⌝ }
+{
+    float::canonical64(sum_products(row, beta))
+}
+
+// The prediction of a row by its first cells, which are those of `head`, and by the others that are not zero, which
+// `places` and `values` list, where no coefficient is a NaN or an infinity: a zero times a finite number adds nothing
+// to a sum that began at +0.0.
+pub fn predict_listed(head: &[f64], places: &[usize], values: &[f64], beta: &[f64]) -> f64
     requires { ⌜ allFinite (now beta) ≡ true ⌝ }
-    requires { ⌜ ((row : List Float) × ListedCells 0 (length (now beta)) (now places) (now values) row) ⌝ }
+    requires { ⌜ ((row : List Float) × SplitRow (length (now beta)) (now head) (now places) (now values) row) ⌝ }
     ensures { λ r. ⌜ ((row : List Float)
-        → ListedCells 0 (length (now (beta .entry))) (now (places .entry)) (now (values .entry)) row
+        → SplitRow (length (now (beta .entry))) (now (head .entry)) (now (places .entry)) (now (values .entry)) row
         → r ≡ dot row (now (beta .entry))) ⌝ }
 {
-    let mut sum = 0.0;
+    let mut sum = sum_products(head, beta);
     let mut p = 0usize;
     while p < places.len() {
         sum = sum + values[p] * beta[places[p]];

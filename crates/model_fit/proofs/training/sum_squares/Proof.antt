@@ -15,13 +15,14 @@ use borrow.Author.Tests.{not-true, not-false}
 use Rattle.status.specs.Limits.{maxOrder, maxLetters}
 use Rattle.feature.specs.Feature.{trains, kept}
 use Rattle.peptide.specs.Table.{Table}
-use Rattle.embedding.specs.Design.{design}
+use Rattle.embedding.specs.Design.{headOf, design}
 use Rattle.embedding.specs.declared.Model.{Model}
+use Rattle.embedding.specs.declared.Model.the-variants.{Retention}
 use Rattle.regression.specs.Regression.{Sample, dot, sse as sseOf}
 use Rattle.regression.proofs.Laws.{sse-nil, sse-snoc}
 use Rattle.model_fit.specs.Input.{Input, inputOf, inputAt}
 use Rattle.model_fit.specs.Shared.{Listed, Checked}
-use Rattle.model_fit.proofs.Rows.{order-max, looked-short, looked-up}
+use Rattle.model_fit.proofs.Rows.{order-max, head-max, looked-short, looked-up}
 use Rattle.model_fit.proofs.Rows.{seen, sampleAt, seen-trains, seen-outside, seen-all}
 use Rattle.model_fit.proofs.Status.{listed}
 use Rattle.model_fit.proofs.training.sum_squares.Statement.{statement}
@@ -29,16 +30,17 @@ use Rattle.model_fit.proofs.training.sum_squares.Tie as tie
 
 abbrev Inv-loop : tie.InvT-loop
 Inv-loop model peptide label q charge observed letters offsets masses logs beta
-    places₀ values₀ finite sse₀ k₀ k-end places values sse k =
+    head₀ places₀ values₀ finite sse₀ k₀ k-end head places values sse k =
     let input : Input = inputOf peptide label q charge observed letters offsets masses logs in
     (k ≤ length peptide)
     × (sse ≡ sseOf beta (seen model input k))
+    × (length head ≡ headOf Retention)
     × (length places ≡ maxOrder)
     × (length values ≡ maxOrder)
 
 abbrev μ-loop : tie.MeasureT-loop
 μ-loop model peptide label q charge observed letters offsets masses logs beta
-    places₀ values₀ finite sse₀ k₀ k-end places values sse k =
+    head₀ places₀ values₀ finite sse₀ k₀ k-end head places values sse k =
     length peptide - k
 
 -- where the function begins, and what it was passed
@@ -117,7 +119,7 @@ loop-holds : tie.Need-loop-holds Inv-loop μ-loop
 unfolding kept ofBits
 loop-holds c =
     let s = c .before .before .before .before .before .before .before .before .before .before in
-    (search needs, sym (sse-nil (now (s .args .beta))), refl, refl)
+    (search needs, sym (sse-nil (now (s .args .beta))), refl, refl, refl)
 
 trains-at-requires : tie.Need-trains-at-requires Inv-loop μ-loop
 trains-at-requires c κs =
@@ -141,7 +143,8 @@ loop-again c =
     sym (c .before .trains-at .ensures) ∙ not-true _ (c .if1 .taken) in
     let n : seen model i (k + 1) ≡ seen model i k =
     rw (add-one k) (seen-outside model i (s .pre .0) k (inside (c .before .before)) t) in
-    (omega arith, at .loop .inv .1 ∙ ap (sseOf (now (s .args .beta))) (sym n), at .loop .inv .2, at .loop .inv .3)
+    let l = at .loop in
+    (omega arith, l .inv .1 ∙ ap (sseOf (now (s .args .beta))) (sym n), l .inv .2, l .inv .3, l .inv .4)
 
 mul-widen : tie.Need-mul-widen Inv-loop μ-loop
 mul-widen c = omega (arith, start (c .before .before .before) .pre .0 .observed-long)
@@ -176,15 +179,18 @@ slice-aggregate-predict-peptide c = sym (turn (c .before) .before .loop .inv .2)
 slice-aggregate-predict-peptide-2 : tie.Need-slice-aggregate-predict-peptide-2 Inv-loop μ-loop
 slice-aggregate-predict-peptide-2 c = sym (turn (c .before .before) .before .loop .inv .3)
 
+slice-aggregate-predict-peptide-3 : tie.Need-slice-aggregate-predict-peptide-3 Inv-loop μ-loop
+slice-aggregate-predict-peptide-3 c = sym (turn (c .before .before .before) .before .loop .inv .4)
+
 predict-peptide-requires : tie.Need-predict-peptide-requires Inv-loop μ-loop
 predict-peptide-requires c κs =
-    let m = c .before .before in
+    let m = c .before .before .before in
     let l = turn m .before .loop in
     let n = order-max (s m .args .model) in (
-      short m,
+      (short m, omega (arith, head-max (s m .args .model), l .inv .2)),
       (
         (s m .pre .1, turn m .before .before .all-finite .ensures),
-        (omega (arith, n, l .inv .2), omega (arith, n, l .inv .3)),
+        (omega (arith, n, l .inv .3), omega (arith, n, l .inv .4)),
       ),
     )
 
@@ -193,7 +199,7 @@ residual-of-requires c κs = search needs
 
 add-k-2 : tie.Need-add-k-2 Inv-loop μ-loop
 add-k-2 c =
-    let m = c .before .before .before .before .before .before in
+    let m = c .before .before .before .before .before .before .before .before in
     omega (arith, inside (turn m), s m .pre .0 .rows-max)
 
 loop-less-2 : tie.Need-loop-less-2 Inv-loop μ-loop
@@ -201,8 +207,8 @@ loop-less-2 c = search needs
 
 loop-again-2 : tie.Need-loop-again-2 Inv-loop μ-loop
 loop-again-2 c =
-    let x = c .before .before .before .predict-peptide in
-    let m = c .before .before .before .before .before .before in
+    let x = c .before .before .before .before .predict-peptide in
+    let m = c .before .before .before .before .before .before .before .before in
     let l = turn m .before .loop in
     let a = s m .args in
     let y = charged m .before .widen in
@@ -214,6 +220,7 @@ loop-again-2 c =
           (x .ensures ∙ ap (λ (r : List Float). dot r (now (a .beta))) (row-is m)) (l .inv .1)),
       kept .0 ∙ l .inv .2,
       kept .1 .0 ∙ l .inv .3,
+      kept .1 .1 .0 ∙ l .inv .4,
     )
 
 returns : tie.Need-returns Inv-loop μ-loop
@@ -245,6 +252,7 @@ sum-squares-spec =
     mass-at-requires
     slice-aggregate-predict-peptide
     slice-aggregate-predict-peptide-2
+    slice-aggregate-predict-peptide-3
     predict-peptide-requires
     residual-of-requires
     add-k-2

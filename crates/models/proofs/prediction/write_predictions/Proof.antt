@@ -13,14 +13,15 @@ use mir.Val.{boolByte}
 use Rattle.status.specs.Limits.{maxOrder, maxLetters, maxRows}
 use Rattle.peptide.specs.Table.{Table}
 use Rattle.embedding.specs.Count.{howMany}
-use Rattle.embedding.specs.Design.{design}
+use Rattle.embedding.specs.Design.{headOf, design}
 use Rattle.embedding.specs.declared.Model.{Model}
+use Rattle.embedding.specs.declared.Model.the-variants.{Retention}
 use Rattle.regression.specs.Regression.{dot}
 use Rattle.model_fit.specs.Input.{Query, tableOf, tableAt, queryOf, queries}
 use Rattle.model_fit.specs.Samples.{designOf}
 use Rattle.model_fit.specs.Shared.{Listed}
 use Rattle.matrix.proofs.Lists.{overwrite-all}
-use Rattle.model_fit.proofs.Rows.{order-max, looked-short, looked-up, length-queries}
+use Rattle.model_fit.proofs.Rows.{order-max, head-max, looked-short, looked-up, length-queries}
 use Rattle.model_fit.proofs.Status.{listed}
 use Rattle.models.specs.Prediction.{boundedOf, predictionOf, inexactIn}
 use Rattle.models.proofs.Writing.{write-next, howMany-first, count-fits, length-predictions}
@@ -31,19 +32,20 @@ use Rattle.models.proofs.prediction.write_predictions.Tie as tie
 
 abbrev Inv-loop : tie.InvT-loop
 Inv-loop model peptide charge letters offsets masses logs beta predicted₀
-    hi n₀ places₀ values₀ finite i₀ i-end predicted inexact places values i =
+    hi n₀ head₀ places₀ values₀ finite i₀ i-end predicted inexact head places values i =
     let table = tableOf letters offsets masses logs in
     let new = map (predictionOf model table beta) (queries peptide charge) in
     (i ≤ length peptide)
     × (predicted ≡ take i new ++ drop i predicted₀)
     × (length predicted ≡ length predicted₀)
+    × (length head ≡ headOf Retention)
     × (length places ≡ maxOrder)
     × (length values ≡ maxOrder)
     × (inexact ≡ inexactIn model table beta (take i (queries peptide charge)))
 
 abbrev μ-loop : tie.MeasureT-loop
 μ-loop model peptide charge letters offsets masses logs beta predicted₀
-    hi n₀ places₀ values₀ finite i₀ i-end predicted inexact places values i =
+    hi n₀ head₀ places₀ values₀ finite i₀ i-end predicted inexact head places values i =
     length peptide - i
 
 -- what the function was passed, and what it is to write and to count
@@ -118,11 +120,11 @@ module _ (m : tie.After-mass-at Inv-loop μ-loop) where
 -- and at which its prediction is known, as the write and the count see it
 module _ (c : tie.After-narrow Inv-loop μ-loop) where
   abbrev looked : tie.After-mass-at Inv-loop μ-loop
-  looked = c .before .before .before .before .before .before .before
+  looked = c .before .before .before .before .before .before .before .before .before
 
-  x-is : c .before .before .before .before .predict-peptide .result ≡ dot (row looked) (beta (at looked))
+  x-is : c .before .before .before .before .before .predict-peptide .result ≡ dot (row looked) (beta (at looked))
   x-is =
-      c .before .before .before .before .predict-peptide .ensures
+      c .before .before .before .before .before .predict-peptide .ensures
       ∙ ap (λ (r : List Float). dot r (beta (at looked))) (row-is looked)
 
   bounded-is : let l = at looked in c .before .clamp64 .result
@@ -138,7 +140,7 @@ module _ (c : tie.After-narrow Inv-loop μ-loop) where
       let l = at looked in
       inexact-next (model l) (table l) (beta l) (rows l) (k (turn looked)) (queryOf 0 0) _ _ _
       (omega (arith, length-queries (peptides l) (charges l), inside (turn looked)))
-      bounded-is (c .narrow .ensures .1) (l .loop .inv .5)
+      bounded-is (c .narrow .ensures .1) (l .loop .inv .6)
 
 largest-requires : tie.Need-largest-requires Inv-loop μ-loop
 largest-requires c κs = search needs
@@ -148,7 +150,7 @@ all-finite-requires c κs = search needs
 
 loop-holds : tie.Need-loop-holds Inv-loop μ-loop
 unfolding howMany
-loop-holds c = (search needs, refl, refl, refl, refl, refl)
+loop-holds c = (search needs, refl, refl, refl, refl, refl, refl)
 
 charge-at-requires : tie.Need-charge-at-requires Inv-loop μ-loop
 charge-at-requires c κs = search needs
@@ -174,15 +176,18 @@ slice-aggregate-predict-peptide c = sym (at (c .before) .loop .inv .3)
 slice-aggregate-predict-peptide-2 : tie.Need-slice-aggregate-predict-peptide-2 Inv-loop μ-loop
 slice-aggregate-predict-peptide-2 c = sym (at (c .before .before) .loop .inv .4)
 
+slice-aggregate-predict-peptide-3 : tie.Need-slice-aggregate-predict-peptide-3 Inv-loop μ-loop
+slice-aggregate-predict-peptide-3 c = sym (at (c .before .before .before) .loop .inv .5)
+
 predict-peptide-requires : tie.Need-predict-peptide-requires Inv-loop μ-loop
 predict-peptide-requires c κs =
-    let m = c .before .before in
+    let m = c .before .before .before in
     let l = at m .loop in
     let n = order-max (s (at m) .args .model) in (
-      short m,
+      (short m, omega (arith, head-max (s (at m) .args .model), l .inv .3)),
       (
         (s (at m) .pre .1 .1, at m .before .all-finite .ensures),
-        (omega (arith, n, l .inv .3), omega (arith, n, l .inv .4)),
+        (omega (arith, n, l .inv .4), omega (arith, n, l .inv .5)),
       ),
     )
 
@@ -208,7 +213,7 @@ add-inexact c =
     let m = looked (c .before) in
     let l = at m in
     let counted : count l (take (k (turn m)) (rows l)) ≤ k (turn m) = howMany-first _ (rows l) (k (turn m)) in
-    let few : l .loop .inexact ≤ k (turn m) = omega (arith, l .loop .inv .5) in
+    let few : l .loop .inexact ≤ k (turn m) = omega (arith, l .loop .inv .6) in
     let h : k (turn m) < maxRows = omega (arith, inside (turn m), s l .pre .1 .0 .0) in
     search (count-fits, few, h)
 
@@ -231,13 +236,14 @@ loop-again c =
     let v =
     prediction-at (model t) (table t) (beta t) (rows t) (l .i) (queryOf 0 0) _ _ (bounded-is n)
     (n .narrow .ensures .0) in
-    let kept = n .before .before .before .before .predict-peptide .kept .1 .1 .1 .1 .1 .1 .1 in (
+    let kept = n .before .before .before .before .before .predict-peptide .kept .1 .1 .1 .1 .1 .1 .1 in (
       omega (arith, h),
       write-next (new t) old (l .predicted) (l .i) (n .narrow .result .value) _
           (omega arith) (omega arith) (l .inv .1) v,
       simp length-set (l .inv .2),
       kept .0 ∙ l .inv .3,
       kept .1 .0 ∙ l .inv .4,
+      kept .1 .1 .0 ∙ l .inv .5,
       count-is n,
     )
 
@@ -252,7 +258,7 @@ returns c =
     let q = length-queries (peptides at) (charges at) in (
       l .inv .1
           ∙ overwrite-all (new at) (now (s at .args .predicted)) (l .i) (omega (arith, l .inv .0, c .loop-test .left)),
-      l .inv .5
+      l .inv .6
           ∙ ap (count at) (take-all (l .i) (rows at) (omega (arith, l .inv .0, c .loop-test .left))),
     )
 
@@ -273,6 +279,7 @@ write-predictions-spec =
     mass-at-requires
     slice-aggregate-predict-peptide
     slice-aggregate-predict-peptide-2
+    slice-aggregate-predict-peptide-3
     predict-peptide-requires
     clamp64-requires
     narrow-requires
