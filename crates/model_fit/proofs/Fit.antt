@@ -76,17 +76,15 @@ module _ (D : ℕ) (ss : List Sample) (s : FitSlices) (cells : List Float) (room
         }
 
     -- a ridge solves it
-    pub fitted-solved : (ridge errors r2 : Float) (sums : Sums) → SolvedBy D (change solving t) (Solves ridge)
+    pub fitted-solved : (ridge : Float) (sums : Sums) → SolvedBy D (change solving t) (Solves ridge)
         → length (t .coefficients) ≡ length (s .coefficients)
-        → errors ≡ sse (t .coefficients) ss
-        → r2 ≡ r2Of sums errors
         → sums ≡ sumsOf ss
-        → FittedBy (fitOf D ss) (change s t) (Solved ridge r2 (sums .n))
-    fitted-solved ridge errors r2 sums h long ee er es =
+        → FittedBy (fitOf D ss) (change s t) (Solved ridge (r2Of sums (sse (t .coefficients) ss)) (sums .n))
+    fitted-solved ridge sums h long es =
         let u : solutionIn D cells ≡ solved ridge (t .coefficients) = solve-solved D solving t ridge h in
         let f : fitOf D ss ≡ fitFrom ss (solved ridge (t .coefficients)) = fit-is ∙ ap (fitFrom ss) u in
         record {
-          outcome = rw (er, ee, es) (sym (ap (λ (x : Fit). x .outcome) f));
+          outcome = rw es (sym (ap (λ (x : Fit). x .outcome) f));
           workspace = zeroed (h .workspace);
           coefficients = sym (overwrite-whole (t .coefficients) (s .coefficients) long)
               ∙ sym (ap (λ (x : Fit). overwritten (x .coefficients) (s .coefficients)) f);

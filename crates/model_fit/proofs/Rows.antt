@@ -1,15 +1,17 @@
--- Laws of the rows: the query and the sample of a row by its columns and by its peptide's, and the samples of the
--- training rows among the first so many rows, as the loops go through them.
+-- Laws of the rows: the query and the sample of a row by its columns and by its peptide's, and the samples and the
+-- squared errors of the training rows among the first so many rows, as the loops go through them.
 use mathlib.Core.Path.{_≡_, refl, sym, ap, _∙_}
 use mathlib.Core.Bool.{Bool, true, false, cond}
 use mathlib.Core.List.{List, [], _∷_, _++_, map, headD, tail, append-nil}
-use Prim.Native.Nat.{ℕ, zero, suc, _≤_, _<_}
+use Prim.Native.Nat.{ℕ, zero, suc, _+_, _≤_, _<_}
 use native.Mathlib.Nat.{le-of-suc-le-suc, not-suc-le-zero}
+use native.Mathlib.Numerals.{add-one}
 use native.Mathlib.Omega.{arith}
 use lib.IntN.{pos}
 use lib.Ieee.{Float, nan}
 use lib.ListN.{length, getD, take, length-take}
 use lib.Seq.{take-all}
+use Rattle.float.specs.Number.{zero64}
 use Rattle.status.specs.Limits.{maxOrder, maxLetters}
 use Rattle.peptide.specs.Table.{Table, sequenceOf}
 use Rattle.peptide.proofs.Laws.{sequence-short}
@@ -19,10 +21,11 @@ use Rattle.embedding.specs.Design.{orderOf, headOf, design}
 use Rattle.embedding.specs.declared.Model.{Model}
 use Rattle.embedding.specs.declared.Model.the-variants.{Retention, Mobility}
 use Rattle.embedding.proofs.Totals.{totals}
-use Rattle.regression.specs.Regression.{Sample}
+use Rattle.regression.specs.Regression.{Sample, dot, sse}
+use Rattle.regression.proofs.Laws.{sse-nil, sse-snoc}
 use Rattle.model_fit.specs.Input.{Input, Query, queryOf, queries}
 use Rattle.model_fit.specs.Samples.{designOf, sampleOf, samples, trainingSamples}
-use Rattle.model_fit.specs.Shared.{Listed, Checked}
+use Rattle.model_fit.specs.Shared.{Listed, Checked, plusSquare}
 use Rattle.matrix.proofs.Lists.{length-zipWith, getD-zipWith}
 use Rattle.model_fit.proofs.Laws.{kept-suc}
 
@@ -100,6 +103,11 @@ sampleAt model i k =
 abbrev pub seen : Model → Input → ℕ → List Sample
 seen model i k = kept (take k (mask (i .labels) (i .qs))) (take k (samples model i))
 
+-- no row is seen yet
+pub squares-none : (model : Model) (i : Input) (beta : List Float) → zero64 ≡ sse beta (seen model i 0)
+unfolding kept
+squares-none model i beta = sym (sse-nil beta)
+
 module _ (model : Model) (i : Input) (c : Checked i) where
   length-marks : length (mask (i .labels) (i .qs)) ≡ length (i .peptides)
   length-marks = length-mask (i .labels) (i .qs) (c .qs-long ∙ sym (c .labels-long)) ∙ c .labels-long
@@ -141,6 +149,22 @@ module _ (model : Model) (i : Input) (c : Checked i) where
     pub seen-outside : trains (getD (i .labels) k (pos 0)) (getD (i .qs) k nan) ≡ false
         → seen model i (suc k) ≡ seen model i k
     seen-outside t = seen-suc false t ∙ append-nil (seen model i k)
+
+    -- and so for the squared errors, by the row's prediction and its target
+    pub squares-next : (beta : List Float) (b : Bool) (x y sum : Float)
+        → trains (getD (i .labels) k (pos 0)) (getD (i .qs) k nan) ≡ b
+        → x ≡ dot (sampleAt model i k .row) beta
+        → y ≡ getD (i .observed) k nan
+        → sum ≡ sse beta (seen model i k)
+        → cond b (plusSquare sum x y) sum ≡ sse beta (seen model i (k + 1))
+    squares-next beta b x y sum t ex ey es =
+        rw (add-one k, seen-suc b t, ex, ey, es) (by-test b)
+      where
+        by-test : (b : Bool) → let ss = seen model i k in let s = sampleAt model i k in
+            cond b (plusSquare (sse beta ss) (dot (s .row) beta) (s .y)) (sse beta ss)
+            ≡ sse beta (ss ++ cond b (s ∷ []) [])
+        by-test true = sym (sse-snoc beta (seen model i k) (sampleAt model i k))
+        by-test false = ap (sse beta) (sym (append-nil (seen model i k)))
 
   -- all rows
   pub seen-all : (k : ℕ) → length (i .peptides) ≤ k → seen model i k ≡ trainingSamples model i

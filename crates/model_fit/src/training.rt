@@ -1,9 +1,11 @@
-// The fit: one pass over the training rows for the normal equations, the solver, and one pass for the squared errors.
+// The fit: one pass over the training rows for the normal equations, the solver, and the squared errors, in a pass of
+// their own or in the pass that predicts every row.
 ghost use mathlib.Core.Path.{_≡_};
+ghost use mathlib.Core.Bool.{cond};
 ghost use mathlib.Core.List.{[]};
 ghost use Prim.Native.Nat.{_+_, _<_, _≤_};
 ghost use lib.IntN.{pos};
-ghost use lib.Ieee.{nan, binary64, sub};
+ghost use lib.Ieee.{nan};
 ghost use lib.ListN.{length, getD, take};
 ghost use Rattle.feature.specs.Feature.{trains};
 ghost use Rattle.status.specs.Limits.{maxLetters};
@@ -12,12 +14,15 @@ ghost use Rattle.matrix.specs.Nonzero.{Nonzeros};
 ghost use Rattle.regression.specs.Regression.{extended, normal, dot, sse};
 ghost use Rattle.regression.specs.Sparse.{RowStarts, addVisited, allFinite};
 ghost use Rattle.regression.specs.Workspace.{Workspace, stored, withStored, holding, fitSlices};
-ghost use Rattle.model_fit.specs.Input.{inputAt, modelInput};
-ghost use Rattle.model_fit.specs.Samples.{sampleFrom, trainingSamples, fitOfInput};
+ghost use Rattle.model_fit.specs.Input.{inputAt, modelInput, tableAt, tableIn, queryOf};
+ghost use Rattle.model_fit.specs.Samples.{sampleFrom, designOf, trainingSamples};
 ghost use Rattle.model_fit.specs.Shared.{
+  Numbered,
   Checked,
   Accumulated,
-  FittedBy,
+  plusSquare,
+  outcomeOf,
+  SolvedRows,
 };
 use crate::design::charge_at;
 use crate::design::log_at;
@@ -27,6 +32,14 @@ use matrix::PeptideIx;
 use regression::FirstRidge;
 use regression::FitOutcome;
 use regression::Sums;
+
+// How far a fit is before its squared errors: solved with a ridge, with the sums of its targets, or not, as an outcome
+// is.
+pub enum Solving {
+    Solved { ridge: f64, sums: Sums },
+    NoTrainingRows,
+    NotSolved,
+}
 
 // Whether row i trains.
 fn trains_at(label: &[i32], q: &[f32], i: usize) -> bool
@@ -252,15 +265,84 @@ pub fn predict_peptide(
     regression::predict_listed(&head[..h], &places[..n], &values[..n], beta)
 }
 
-// A prediction less its target.
-fn residual_of(prediction: f64, y: f64) -> f64
-    ensures { λ r. ⌜ r ≡ sub binary64 prediction y ⌝ }
+// Row i's prediction, before it is clamped. `finite`, `head`, `places` and `values` are as for a peptide's. For this
+// crate and the models, which have checked the table.
+pub fn predict_row(
+    model: Model,
+    peptide: &[u32],
+    charge: &[u8],
+    letters: &[u8],
+    offsets: &[u32],
+    masses: &[f32],
+    logs: &[f64],
+    beta: &[f64],
+    finite: bool,
+    head: &mut [f64],
+    places: &mut [usize],
+    values: &mut [f64],
+    i: usize,
+) -> f64
+    requires { ⌜ Numbered (tableAt letters offsets masses logs) (now peptide) ⌝ }
+    requires { ⌜ (i < length (now peptide)) × (headOf model ≤ length (now head)) ⌝ }
+    requires { ⌜ (length (now beta) ≡ orderOf model) × (finite ≡ allFinite (now beta)) ⌝ }
+    requires { ⌜ (orderOf model ≤ length (now places)) × (orderOf model ≤ length (now values)) ⌝ }
+    ensures { λ r. ⌜ r ≡ dot
+        (designOf model (tableIn letters offsets masses logs)
+        (queryOf (getD (now (peptide .entry)) i 0) (getD (now (charge .entry)) i 0)))
+        (now (beta .entry)) ⌝ }
 {
-    prediction - y
+    let z = charge_at(charge, i);
+    let number = peptide[i];
+    let p = PeptideIx(number);
+    let sequence = peptide::sequence(letters, offsets, p);
+    let log = log_at(logs, p);
+    let mass = mass_at(masses, p);
+    predict_peptide(
+        model,
+        sequence,
+        log,
+        mass,
+        z,
+        beta,
+        finite,
+        head,
+        places,
+        values,
+    )
 }
 
-// The sum of the squared errors of the training rows.
-fn sum_squares(
+// The squared errors `sum` and that of one row more, its prediction less its target, squared.
+fn add_square(sum: f64, prediction: f64, y: f64) -> f64
+    ensures { λ r. ⌜ r ≡ plusSquare sum prediction y ⌝ }
+{
+    let residual = prediction - y;
+    sum + residual * residual
+}
+
+// The squared errors `sum`, and that of a row where it trains. For the models, which predict every row.
+pub fn add_square_at(
+    sum: f64,
+    prediction: f64,
+    label: &[i32],
+    q: &[f32],
+    observed: &[f32],
+    row: usize,
+) -> f64
+    requires { ⌜ (row < length (now label)) × (row < length (now q)) ⌝ }
+    requires { ⌜ row < length (now observed) ⌝ }
+    ensures { λ r. ⌜ r ≡ cond
+        (trains (getD (now (label .entry)) row (pos 0)) (getD (now (q .entry)) row nan))
+        (plusSquare sum prediction (getD (now (observed .entry)) row nan))
+        sum ⌝ }
+{
+    if !trains_at(label, q, row) {
+        return sum;
+    }
+    add_square(sum, prediction, float::widen(observed[row]))
+}
+
+// The sum of the squared errors of the training rows. For the models, which have checked the rows and the table.
+pub fn sum_squares(
     model: Model,
     peptide: &[u32],
     label: &[i32],
@@ -288,35 +370,30 @@ fn sum_squares(
         if !trains_at(label, q, k) {
             continue;
         }
-        let y = float::widen(observed[k]);
-        let z = charge_at(charge, k);
-        let number = peptide[k];
-        let p = PeptideIx(number);
-        let sequence = peptide::sequence(letters, offsets, p);
-        let log = log_at(logs, p);
-        let mass = mass_at(masses, p);
-        let x = predict_peptide(
+        let x = predict_row(
             model,
-            sequence,
-            log,
-            mass,
-            z,
+            peptide,
+            charge,
+            letters,
+            offsets,
+            masses,
+            logs,
             beta,
             finite,
             &mut head,
             &mut places,
             &mut values,
+            k,
         );
-        let residual = residual_of(x, y);
-        sse = sse + residual * residual;
+        sse = add_square(sse, x, float::widen(observed[k]));
     }
     sse
 }
 
-// Fits the model to the training rows. `workspace` and `beta` have just the cells that it needs: the workspace ends as
-// +0.0, and `beta` gets the coefficients of a fit that is solved. For the models, which have checked the rows and the
-// table.
-pub fn fit_checked(
+// Fits the coefficients to the training rows. `workspace` and `beta` have just the cells that it needs: the workspace
+// ends as +0.0, and `beta` gets the coefficients where a ridge solves it. For the models, which have checked the rows
+// and the table.
+pub fn solve_checked(
     model: Model,
     peptide: &[u32],
     label: &[i32],
@@ -329,12 +406,12 @@ pub fn fit_checked(
     logs: &[f64],
     workspace: &mut [f64],
     beta: &mut [f64],
-) -> FitOutcome
+) -> Solving
     requires { ⌜ Checked (inputAt peptide label q charge observed letters offsets masses logs) ⌝ }
     requires { ⌜ Workspace (orderOf model) (now workspace) ⌝ }
     requires { ⌜ length (now beta) ≡ orderOf model ⌝ }
-    ensures { λ r. ⌜ FittedBy
-        (fitOfInput model (modelInput peptide label q charge observed letters offsets masses logs))
+    ensures { λ r. ⌜ SolvedRows model
+        (modelInput peptide label q charge observed letters offsets masses logs)
         (fitSlices workspace beta)
         r ⌝ }
 {
@@ -353,29 +430,27 @@ pub fn fit_checked(
         workspace,
     );
     if sums.n == 0 {
-        return FitOutcome::NoTrainingRows;
+        return Solving::NoTrainingRows;
     }
     let d = embedding::order(model);
     let first = regression::solve(workspace, d, beta);
     let FirstRidge::Solves(ridge) = first else {
-        return FitOutcome::NotSolved;
+        return Solving::NotSolved;
     };
-    let sse = sum_squares(
-        model,
-        peptide,
-        label,
-        q,
-        charge,
-        observed,
-        letters,
-        offsets,
-        masses,
-        logs,
-        beta,
-    );
-    FitOutcome::Solved {
-        ridge,
-        r2: regression::r2(sums, sse),
-        n: sums.n,
+    Solving::Solved { ridge, sums }
+}
+
+// The outcome of a fit by the squared errors of its coefficients, which only a solved one has.
+pub fn outcome(solving: Solving, sse: f64) -> FitOutcome
+    ensures { λ r. ⌜ r ≡ outcomeOf solving sse ⌝ }
+{
+    match solving {
+        Solving::Solved { ridge, sums } => FitOutcome::Solved {
+            ridge,
+            r2: regression::r2(sums, sse),
+            n: sums.n,
+        },
+        Solving::NoTrainingRows => FitOutcome::NoTrainingRows,
+        Solving::NotSolved => FitOutcome::NotSolved,
     }
 }

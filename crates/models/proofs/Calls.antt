@@ -2,7 +2,8 @@
 -- its checks.
 use mathlib.Core.Path.{_≡_, refl, sym, ap, _∙_}
 use mathlib.Core.Bool.{Bool, true, false, cond, _&&_}
-use mathlib.Core.List.{List, [], _++_, map, zipWith}
+use mathlib.Core.List.{List, [], _∷_, _++_, map, zipWith}
+use mathlib.Core.Logic.{⊎-elim}
 use Prim.Native.Nat.{ℕ, _≤_}
 use native.Mathlib.Omega.{arith}
 use lib.Dec.{eqb, leb}
@@ -10,7 +11,9 @@ use lib.Ieee.{Float}
 use lib.ListN.{length, take, drop, replicate, length-append, length-drop, length-replicate}
 use lib.Seq.{length-take-le, take-at}
 use borrow.Author.Tests.{leb-true}
-use Rattle.params.specs.Slice.{change}
+use denote.Enum.Declared.{tagOf}
+use types.Run.{OneOf}
+use Rattle.params.specs.Slice.{Change, change}
 use Rattle.float.specs.Number.{zero64}
 use Rattle.status.specs.Status.{accepted}
 use Rattle.status.proofs.Told.{if-accepted, if-refused}
@@ -18,13 +21,17 @@ use Rattle.status.specs.Told.{ifAccepted, toldFor}
 use Rattle.status.proofs.Laws.{and-true}
 use Rattle.embedding.specs.Design.{orderOf}
 use Rattle.embedding.specs.declared.Model.{Model}
-use Rattle.regression.specs.Regression.{Fit, toldBy as outcomeTold}
+use Rattle.regression.specs.Regression.{Fit, sse, toldBy as outcomeTold}
 use Rattle.regression.specs.Workspace.{FitSlices, workspaceCells}
 use Rattle.regression.specs.declared.FitOutcome.{FitOutcome}
 use Rattle.regression.specs.declared.FitOutcome.the-variants.{Solved, NoTrainingRows, NotSolved}
 use Rattle.model_fit.specs.Input.{Input, queries, fitRoom}
-use Rattle.model_fit.specs.Samples.{fitOfInput}
-use Rattle.model_fit.specs.Shared.{FittedBy}
+use Rattle.model_fit.specs.Samples.{trainingSamples, fitOfInput}
+use Rattle.model_fit.specs.Shared.{FittedBy, outcomeOf, SolvedRows}
+use Rattle.model_fit.specs.declared.training.Solving.{Solving}
+use Rattle.model_fit.specs.declared.training.Solving.the-variants.{Solved as SolvedWith, NoTrainingRows as NoRows}
+use Rattle.model_fit.specs.declared.training.Solving.the-variants.{NotSolved as Unsolved}
+use Rattle.model_fit.proofs.training.Solving.{the-type}
 use Rattle.matrix.specs.Lists.{overwritten}
 use Rattle.matrix.proofs.Lists.{overwrite-part, zipWith-append, zipWith-none}
 use Rattle.models.specs.declared.FitAnswer.{FitAnswer}
@@ -35,7 +42,8 @@ use Rattle.models.specs.declared.PredictAnswer.the-variants.{Predicted, 
 use Rattle.models.specs.Prediction.{isSolved, predictionOf, errorOf, predictions, errors, inexactIn, inexact}
 use Rattle.models.specs.Call.{PredictSlices, fitPart, answerOf, toldBy, predictRoom, fitStatus, predictStatus}
 use Rattle.models.specs.Call.{predictOutcome, predictAnswerOf, predictOutcomeTold, predictTold}
-use Rattle.models.specs.Call.{fitFilled, predictFilled, FittedWithin, PredictedWithin, FitCall, PredictCall}
+use Rattle.models.specs.Call.{fitFilled, predictFilled, FittedWithin, SolvedWithin, PredictedWithin}
+use Rattle.models.specs.Call.{FitCall, PredictCall}
 use Rattle.models.proofs.Writing.{length-predictions}
 
 -- ---- the slices' lengths
@@ -118,6 +126,63 @@ fitted-within model i k d s t r ek ed hk hd kept f =
       slices = λ j. record { workspace = workspace-is j; coefficients = coefficients-is j };
       long = λ e. if-solved r _ e (λ ridge r2 n told. f .long ridge r2 n told ∙ td ∙ ed);
     }
+
+-- the same of how far it was solved, with the squared errors of the coefficients that are kept
+pub solved-within : (model : Model) (i : Input) (k d : ℕ) (s t : FitSlices) (r : Solving)
+    → k ≡ workspaceCells (orderOf model)
+    → d ≡ orderOf model
+    → k ≤ length (s .workspace)
+    → d ≤ length (s .coefficients)
+    → length (t .coefficients) ≡ length (take d (s .coefficients))
+    → SolvedRows model i
+    (change (record { workspace = take k (s .workspace); coefficients = take d (s .coefficients) }) t)
+    r
+    → SolvedWithin model i
+    (change s
+    (record {
+      workspace = t .workspace ++ drop k (s .workspace);
+      coefficients = t .coefficients ++ drop d (s .coefficients);
+    }))
+    r
+solved-within model i k d s t r ek ed hk hd kept f =
+    let rest : List Float = drop d (s .coefficients) in
+    let wide : length (t .coefficients) ≡ orderOf model = kept ∙ length-take-le d (s .coefficients) hd ∙ ed in
+    rw (take-at (t .coefficients) rest (orderOf model) wide)
+    (fitted-within model i k d s t _ ek ed hk hd kept f)
+
+-- ---- by how far it was solved
+
+-- a fit that is solved, and one that isn't, by the keys of a `match`
+pub is-solved : (r : Solving) (errors : Float) → OneOf (0 ∷ []) (tagOf the-type r)
+    → isSolved (outcomeOf r errors) ≡ true
+is-solved (SolvedWith ridge sums) errors h = refl
+is-solved NoRows errors h = absurd (omega arith)
+is-solved Unsolved errors h = absurd (omega arith)
+
+pub not-solved : (r : Solving) (errors : Float) → OneOf (1 ∷ 2 ∷ []) (tagOf the-type r)
+    → isSolved (outcomeOf r errors) ≡ false
+not-solved (SolvedWith ridge sums) errors h = ⊎-elim (λ e. absurd (omega arith)) (λ e. absurd (omega arith)) h
+not-solved NoRows errors h = refl
+not-solved Unsolved errors h = refl
+
+-- one that isn't has the same outcome with any squared errors
+same-unsolved : (r : Solving) (e₁ e₂ : Float) → isSolved (outcomeOf r e₁) ≡ false
+    → outcomeOf r e₁ ≡ outcomeOf r e₂
+same-unsolved (SolvedWith ridge sums) e₁ e₂ h = let z : _≡_ {A = ℕ} 0 1 = cc in absurd (omega arith)
+same-unsolved NoRows e₁ e₂ h = refl
+same-unsolved Unsolved e₁ e₂ h = refl
+
+module _ (model : Model) (i : Input) (s : Change FitSlices) (r : Solving) (f : SolvedWithin model i s r)
+    (errors : Float) (o : FitOutcome) (is-outcome : o ≡ outcomeOf r errors) where
+  pub completed : (d : ℕ) → d ≡ orderOf model
+      → errors ≡ sse (take d (s .exit .coefficients)) (trainingSamples model i)
+      → FittedWithin model i s o
+  completed d ed e = rw (is-outcome, e, ed) f
+
+  pub uncompleted : isSolved (outcomeOf r errors) ≡ false → FittedWithin model i s o
+  uncompleted h =
+      let e : Float = sse (take (orderOf model) (s .exit .coefficients)) (trainingSamples model i) in
+      rw (is-outcome, same-unsolved r errors e h) f
 
 -- ---- the status
 

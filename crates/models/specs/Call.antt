@@ -7,7 +7,7 @@ use Prim.Native.Nat.{ℕ}
 use lib.Dec.{leb}
 use lib.IntN.{ℤ}
 use lib.Ieee.{Float}
-use lib.ListN.{length, replicate}
+use lib.ListN.{length, replicate, take}
 use denote.Ref.{now}
 use Rattle.params.specs.Slice.{Held, Change, change, Slice}
 use Rattle.float.specs.Number.{zero64}
@@ -15,11 +15,13 @@ use Rattle.matrix.specs.Lists.{overwritten}
 use Rattle.status.specs.Told.{Told, only, ifAccepted, toldFor}
 use Rattle.embedding.specs.Design.{orderOf}
 use Rattle.embedding.specs.declared.Model.{Model}
-use Rattle.regression.specs.Regression.{Fit, Values, toldBy as outcomeTold}
+use Rattle.regression.specs.Regression.{Fit, Values, sse, toldBy as outcomeTold}
 use Rattle.regression.specs.Workspace.{FitSlices, workspaceCells}
 use Rattle.regression.specs.declared.FitOutcome.{FitOutcome}
 use Rattle.model_fit.specs.Input.{Input, inputOf, statusBy, fitRoom}
-use Rattle.model_fit.specs.Samples.{fitOfInput}
+use Rattle.model_fit.specs.Samples.{trainingSamples, fitOfInput}
+use Rattle.model_fit.specs.Shared.{outcomeOf}
+use Rattle.model_fit.specs.declared.training.Solving.{Solving}
 use Rattle.models.specs.Prediction.{isSolved, predictions, errors, inexact}
 use Rattle.models.specs.declared.FitAnswer.{FitAnswer}
 use Rattle.models.specs.declared.FitAnswer.the-variants.{Fitted, Refused}
@@ -181,6 +183,12 @@ pub record FittedWithin (model : Model) (i : Input) (s : Change FitSlices) (r : 
   pub slices : s .exit ≡ fitFilled model i (s .entry)
   -- a fit that is solved has a coefficient for each column
   pub long : isSolved r ≡ true → length (fitOfInput model i .coefficients) ≡ orderOf model
+
+-- such a fit, once its squared errors are known
+abbrev pub SolvedWithin : Model → Input → Change FitSlices → Solving → Type 0
+SolvedWithin model i s r =
+    FittedWithin model i s
+    (outcomeOf r (sse (take (orderOf model) (s .exit .coefficients)) (trainingSamples model i)))
 
 -- a prediction that passed the checks: the fit, the count, and the outputs, of which a fit that is not solved leaves
 -- all

@@ -6,12 +6,13 @@ ghost use mathlib.Core.List.{map, zipWith};
 ghost use Prim.Native.Nat.{_≤_};
 ghost use lib.ListN.{length};
 ghost use Rattle.embedding.specs.Design.{orderOf};
+ghost use Rattle.regression.specs.Regression.{sse};
 ghost use Rattle.regression.specs.Workspace.{fitSlices};
-ghost use Rattle.status.specs.Limits.{maxRows};
-ghost use Rattle.model_fit.specs.Input.{inputAt, modelInput, tableAt, tableIn, queries, fitRoom};
+ghost use Rattle.model_fit.specs.Input.{inputAt, modelInput, tableIn, queries, fitRoom};
+ghost use Rattle.model_fit.specs.Samples.{trainingSamples};
 ghost use Rattle.matrix.specs.Lists.{overwritten};
-ghost use Rattle.model_fit.specs.Shared.{Numbered, Checked};
-ghost use Rattle.models.specs.Prediction.{largest, isSolved, predictionOf, errorOf, inexactIn};
+ghost use Rattle.model_fit.specs.Shared.{Checked};
+ghost use Rattle.models.specs.Prediction.{largest, predictionOf, errorOf, inexactIn};
 ghost use Rattle.models.specs.Call.{
   outputsOf,
   predictAt,
@@ -19,6 +20,7 @@ ghost use Rattle.models.specs.Call.{
   predictRoom,
   predictRoomIn,
   FittedWithin,
+  SolvedWithin,
   PredictedWithin,
   FitCall,
   PredictCall,
@@ -27,15 +29,22 @@ use crate::FitAnswer;
 use crate::PredictAnswer;
 use crate::PredictOutcome;
 use embedding::Model;
-use matrix::PeptideIx;
 use model_fit::checks::check;
 use model_fit::checks::fit_room;
-use model_fit::design::charge_at;
-use model_fit::design::log_at;
-use model_fit::design::mass_at;
-use model_fit::training::fit_checked;
-use model_fit::training::predict_peptide;
+use model_fit::training::Solving;
+use model_fit::training::add_square_at;
+use model_fit::training::outcome;
+use model_fit::training::predict_row;
+use model_fit::training::solve_checked;
+use model_fit::training::sum_squares;
 use regression::FitOutcome;
+
+// What a pass over the rows finds besides their predictions: how many of them narrowing changed, and the sum of the
+// squared errors of the training rows.
+struct Written {
+    inexact: u32,
+    sse: f64,
+}
 
 // The largest prediction of a model.
 fn largest(model: Model) -> f64
@@ -47,59 +56,66 @@ fn largest(model: Model) -> f64
     }
 }
 
-// Writes each row's prediction into the first cells of `predicted`, and counts those that narrowing changed.
-pub(crate) fn write_predictions(
+// Writes each row's prediction into the first cells of `predicted`, counts those that narrowing changed, and sums the
+// squared errors of the training rows.
+fn write_predictions(
     model: Model,
     peptide: &[u32],
+    label: &[i32],
+    q: &[f32],
     charge: &[u8],
+    observed: &[f32],
     letters: &[u8],
     offsets: &[u32],
     masses: &[f32],
     logs: &[f64],
     beta: &[f64],
     predicted: &mut [f32],
-) -> u32
-    requires { ⌜ Numbered (tableAt letters offsets masses logs) (now peptide) ⌝ }
-    requires { ⌜ (length (now peptide) ≤ maxRows) × (length (now peptide) ≤ length (now predicted)) ⌝ }
+) -> Written
+    requires { ⌜ Checked (inputAt peptide label q charge observed letters offsets masses logs) ⌝ }
+    requires { ⌜ length (now peptide) ≤ length (now predicted) ⌝ }
     requires { ⌜ length (now beta) ≡ orderOf model ⌝ }
     ensures { λ _. ⌜ now (predicted .exit) ≡ overwritten
         (map
         (predictionOf model (tableIn letters offsets masses logs) (now (beta .entry)))
         (queries (now (peptide .entry)) (now (charge .entry))))
         (now (predicted .entry)) ⌝ }
-    ensures { λ r. ⌜ r ≡ inexactIn model (tableIn letters offsets masses logs) (now (beta .entry))
+    ensures { λ r. ⌜ r .inexact ≡ inexactIn model (tableIn letters offsets masses logs) (now (beta .entry))
         (queries (now (peptide .entry)) (now (charge .entry))) ⌝ }
+    ensures { λ r. ⌜ r .sse ≡ sse
+        (now (beta .entry))
+        (trainingSamples model (modelInput peptide label q charge observed letters offsets masses logs)) ⌝ }
 {
     let hi = largest(model);
     let mut inexact = 0u32;
+    let mut sse = 0.0;
     let mut head = [0.0f64; embedding::MAX_HEAD];
     let mut places = [0usize; status::MAX_ORDER];
     let mut values = [0.0f64; status::MAX_ORDER];
     let finite = regression::all_finite(beta);
     for i in 0..peptide.len() {
-        let z = charge_at(charge, i);
-        let number = peptide[i];
-        let p = PeptideIx(number);
-        let sequence = peptide::sequence(letters, offsets, p);
-        let log = log_at(logs, p);
-        let mass = mass_at(masses, p);
-        let x = predict_peptide(
+        let x = predict_row(
             model,
-            sequence,
-            log,
-            mass,
-            z,
+            peptide,
+            charge,
+            letters,
+            offsets,
+            masses,
+            logs,
             beta,
             finite,
             &mut head,
             &mut places,
             &mut values,
+            i,
         );
-        let bounded = float::narrow(float::clamp64(x, 0.0, hi));
+        let clamped = float::clamp64(x, 0.0, hi);
+        let bounded = float::narrow(clamped);
         predicted[i] = bounded.value;
         inexact += !bounded.exact as u32;
+        sse = add_square_at(sse, x, label, q, observed, i);
     }
-    inexact
+    Written { inexact, sse }
 }
 
 // |observed - predicted|.
@@ -120,6 +136,46 @@ pub(crate) fn write_errors(observed: &[f32], predicted: &[f32], error: &mut [f32
     for i in 0..observed.len() {
         error[i] = error_of(observed[i], predicted[i]);
     }
+}
+
+// Fits the coefficients of a call that passed the checks, on the first cells of `workspace` and `beta`.
+fn solve_accepted(
+    model: Model,
+    peptide: &[u32],
+    label: &[i32],
+    q: &[f32],
+    charge: &[u8],
+    observed: &[f32],
+    letters: &[u8],
+    offsets: &[u32],
+    masses: &[f32],
+    logs: &[f64],
+    workspace: &mut [f64],
+    beta: &mut [f64],
+) -> Solving
+    requires { ⌜ Checked (inputAt peptide label q charge observed letters offsets masses logs) ⌝ }
+    requires { ⌜ fitRoom model (length (now workspace)) (length (now beta)) ≡ true ⌝ }
+    ensures { λ r. ⌜ SolvedWithin model
+        (modelInput peptide label q charge observed letters offsets masses logs)
+        (fitSlices workspace beta)
+        r ⌝ }
+{
+    let d = embedding::order(model);
+    let cells = regression::workspace_cells(d);
+    solve_checked(
+        model,
+        peptide,
+        label,
+        q,
+        charge,
+        observed,
+        letters,
+        offsets,
+        masses,
+        logs,
+        &mut workspace[..cells],
+        &mut beta[..d],
+    )
 }
 
 // Fits the model of a call that passed the checks, on the first cells of `workspace` and `beta`.
@@ -144,9 +200,7 @@ fn fit_accepted(
         (fitSlices workspace beta)
         r ⌝ }
 {
-    let d = embedding::order(model);
-    let cells = regression::workspace_cells(d);
-    fit_checked(
+    let solving = solve_accepted(
         model,
         peptide,
         label,
@@ -157,9 +211,27 @@ fn fit_accepted(
         offsets,
         masses,
         logs,
-        &mut workspace[..cells],
-        &mut beta[..d],
-    )
+        workspace,
+        beta,
+    );
+    let Solving::Solved { .. } = solving else {
+        return outcome(solving, 0.0);
+    };
+    let d = embedding::order(model);
+    let sse = sum_squares(
+        model,
+        peptide,
+        label,
+        q,
+        charge,
+        observed,
+        letters,
+        offsets,
+        masses,
+        logs,
+        &beta[..d],
+    );
+    outcome(solving, sse)
 }
 
 // Checks a call and fits the model.
@@ -235,17 +307,6 @@ fn predict_room(
     rows <= error
 }
 
-// Whether a fit has coefficients to predict with.
-fn is_solved(outcome: FitOutcome) -> bool
-    ensures { λ r. ⌜ r ≡ isSolved outcome ⌝ }
-{
-    match outcome {
-        FitOutcome::Solved { .. } => true,
-        FitOutcome::NoTrainingRows => false,
-        FitOutcome::NotSolved => false,
-    }
-}
-
 // Fits the model of a call that passed the checks and, where that is solved, writes predictions and errors.
 pub(crate) fn predict_accepted(
     model: Model,
@@ -273,7 +334,7 @@ pub(crate) fn predict_accepted(
         (predictSlices workspace (outputsOf beta predicted error))
         r ⌝ }
 {
-    let fit = fit_accepted(
+    let fit = solve_accepted(
         model,
         peptide,
         label,
@@ -287,14 +348,20 @@ pub(crate) fn predict_accepted(
         workspace,
         beta,
     );
-    if !is_solved(fit) {
-        return PredictOutcome { fit, inexact: 0 };
-    }
+    let Solving::Solved { .. } = fit else {
+        return PredictOutcome {
+            fit: outcome(fit, 0.0),
+            inexact: 0,
+        };
+    };
     let d = embedding::order(model);
-    let inexact = write_predictions(
+    let written = write_predictions(
         model,
         peptide,
+        label,
+        q,
         charge,
+        observed,
         letters,
         offsets,
         masses,
@@ -303,7 +370,10 @@ pub(crate) fn predict_accepted(
         predicted,
     );
     write_errors(observed, predicted, error);
-    PredictOutcome { fit, inexact }
+    PredictOutcome {
+        fit: outcome(fit, written.sse),
+        inexact: written.inexact,
+    }
 }
 
 // Checks a call, fits the model and, where that is solved, writes predictions and errors.

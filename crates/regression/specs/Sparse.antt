@@ -4,7 +4,7 @@ use mathlib.Core.Path.{_≡_}
 use mathlib.Core.Bool.{Bool, _||_, cond}
 use mathlib.Core.List.{List, [], _∷_}
 use Prim.Native.Nat.{ℕ, zero, suc, _+_, _-_, _*_, _/_, _≤_, _<_}
-use lib.ListN.{length, getD, set, take}
+use lib.ListN.{length, getD, set, take, drop}
 use lib.Ieee.{Float, nan}
 use Rattle.float.specs.Value.{isFinite, isZero}
 use Rattle.status.specs.Checks.{every}
@@ -22,11 +22,6 @@ allFinite cells = every isFinite cells
 pub record RowStarts (D : ℕ) (starts : List ℕ) : Type 0 where
   pub enough : D ≤ length starts
   pub at : (j : ℕ) → j < D → getD starts j 0 ≡ fallingStart (D + 1) j
-
--- n cells from place j on by those of them that are not zero
-pub record ListedCells (j n : ℕ) (places : List ℕ) (values cells : List Float) : Type 0 where
-  pub wide : length cells ≡ n
-  pub listed : Nonzeros j cells places values
 
 -- a row of n cells by its first cells and those of the others that are not zero
 pub record SplitRow (n : ℕ) (head : List Float) (places : List ℕ) (values row : List Float) : Type 0 where

@@ -1,75 +1,56 @@
--- `models::prediction::fit_accepted` meets its contract: the slices' first cells are lent and come back.
-use mathlib.Core.Path.{_≡_, ap, _∙_}
-use Prim.Native.Nat.{ℕ, _≤_}
+-- `models::prediction::fit_accepted` meets its contract: the coefficients of a fit that is solved are lent for their
+-- squared errors.
+use mathlib.Core.Path.{_∙_}
+use mathlib.Core.List.{List}
+use Prim.Native.Nat.{_≤_}
 use native.Mathlib.Omega.{arith}
 use denote.Ref.{now}
+use lib.Ieee.{Float}
 use lib.ListN.{length, length-take}
 use lib.Seq.{length-take-le}
 use borrow.Author.Needs.{needs}
-use Rattle.embedding.specs.Design.{orderOf}
-use Rattle.regression.specs.Workspace.{FitSlices, workspaceCells}
 use Rattle.model_fit.specs.Input.{Input, inputAt}
-use Rattle.model_fit.proofs.Rows.{order-max}
-use Rattle.models.proofs.Calls.{Room, room, fitted-within}
+use Rattle.models.proofs.Calls.{Room, room, not-solved, completed, uncompleted}
 use Rattle.models.proofs.prediction.fit_accepted.Statement.{statement}
 use Rattle.models.proofs.prediction.fit_accepted.Tie as tie
 
--- the cells that are lent
-module _ (w : tie.After-workspace-cells) where
+-- the solver has answered
+module _ (g : tie.After-solve-accepted) where
   abbrev s : tie.Start
-  s = w .before .before .before .before .before .before .before .before .before .before .before .before
+  s = g .before .before .before .before .before .before .before .before .before .before .before .before .before
 
-  abbrev d : ℕ
-  d = w .before .order .result
+  abbrev passed : Input
+  passed =
+      let a = s .args in
+      inputAt (a .peptide) (a .label) (a .q) (a .charge) (a .observed) (a .letters) (a .offsets) (a .masses) (a .logs)
 
-  abbrev k : ℕ
-  k = w .workspace-cells .result
+  abbrev beta : List Float
+  beta = g .solve-accepted .last .1 .1 .1 .1 .1 .1 .1 .1 .1 .1 .1 .0
 
-  d-is : d ≡ orderOf (s .args .model)
-  d-is = w .before .order .ensures
+-- the fit is solved
+module _ (o : tie.After-order) where
+  abbrev solved : tie.After-solve-accepted
+  solved = o .before .before .before .before .before .before .before
 
-  k-is : k ≡ workspaceCells (orderOf (s .args .model))
-  k-is = w .workspace-cells .ensures ∙ ap workspaceCells d-is
+  -- as many coefficients are lent as there are columns
+  d-fits : o .order .result ≤ length (beta solved)
+  d-fits =
+      let a = s solved .args in
+      omega (
+        arith,
+        o .order .ensures,
+        room (a .model) (length (now (a .workspace))) (length (now (a .beta))) (s solved .pre .1) .coefficients,
+        solved .solve-accepted .kept .1 .1 .1 .1 .1 .1 .1 .1 .1 .1 .1 .0,
+      )
 
-  roomy : Room (s .args .model) (length (now (s .args .workspace))) (length (now (s .args .beta)))
-  roomy = room (s .args .model) (length (now (s .args .workspace))) (length (now (s .args .beta))) (s .pre .1)
+solve-accepted-requires : tie.Need-solve-accepted-requires
+solve-accepted-requires c κs = search needs
 
-  k-fits : k ≤ length (now (s .args .workspace))
-  k-fits = omega (arith, k-is, roomy .cells)
+enum-told : tie.Need-enum-told
+enum-told c = search needs
 
-  d-fits : d ≤ length (now (s .args .beta))
-  d-fits = omega (arith, d-is, roomy .coefficients)
-
-order-requires : tie.Need-order-requires
-order-requires c κs = search needs
-
-workspace-cells-requires : tie.Need-workspace-cells-requires
-workspace-cells-requires c κs =
-    let s = c .before .before .before .before .before .before .before .before .before .before .before in
-    omega (arith, c .order .ensures, order-max (s .args .model))
-
-slice-relend-prefix-fit-checked : tie.Need-slice-relend-prefix-fit-checked
-slice-relend-prefix-fit-checked c = k-fits c
-
-slice-aggregate-fit-checked : tie.Need-slice-aggregate-fit-checked
-slice-aggregate-fit-checked c = simp length-take (omega (arith, k-fits (c .before)))
-
-slice-relend-prefix-fit-checked-2 : tie.Need-slice-relend-prefix-fit-checked-2
-slice-relend-prefix-fit-checked-2 c = d-fits (c .before)
-
-slice-aggregate-fit-checked-2 : tie.Need-slice-aggregate-fit-checked-2
-slice-aggregate-fit-checked-2 c = simp length-take (omega (arith, d-fits (c .before .before)))
-
-fit-checked-requires : tie.Need-fit-checked-requires
-fit-checked-requires c κs =
-    let w = c .before .before in
-    let a = s w .args in (
-      s w .pre .0,
-      (
-        record { order = order-max (a .model); count = length-take-le (k w) (now (a .workspace)) (k-fits w) ∙ k-is w },
-        length-take-le (d w) (now (a .beta)) (d-fits w) ∙ d-is w,
-      ),
-    )
+outcome-requires : tie.Need-outcome-requires
+outcome-requires c κs = search needs
 
 same-length : tie.Need-same-length
 same-length c = search needs
@@ -79,28 +60,57 @@ same-length-2 c = search needs
 
 returns : tie.Need-returns
 returns c =
-    let f = c .before .before .before .before in
-    let w = f .before .before .before in
-    let a = s w .args in
-    let i : Input =
-    inputAt (a .peptide) (a .label) (a .q) (a .charge) (a .observed) (a .letters) (a .offsets) (a .masses) (a .logs) in
-    let l = f .fit-checked .last .1 .1 .1 .1 .1 .1 .1 .1 .1 .1 in
-    let before : FitSlices = record { workspace = now (a .workspace); coefficients = now (a .beta) } in
-    let after : FitSlices = record { workspace = l .0; coefficients = l .1 .0 } in
-    fitted-within (a .model) i (k w) (d w) before after (f .fit-checked .result) (k-is w) (d-is w) (k-fits w) (d-fits w)
-    (f .fit-checked .kept .1 .1 .1 .1 .1 .1 .1 .1 .1 .1 .1 .0) (f .fit-checked .ensures)
+    let g = c .before .before .before .before .before .before in
+    uncompleted (s g .args .model) (passed g) _ (g .solve-accepted .result) (g .solve-accepted .ensures) _ _
+    (c .outcome .ensures) (not-solved (g .solve-accepted .result) _ (c .before .match .keys2))
+
+order-requires : tie.Need-order-requires
+order-requires c κs = search needs
+
+slice-reshare-prefix-sum-squares : tie.Need-slice-reshare-prefix-sum-squares
+slice-reshare-prefix-sum-squares c = d-fits c
+
+slice-aggregate-sum-squares : tie.Need-slice-aggregate-sum-squares
+slice-aggregate-sum-squares c = simp length-take (omega (arith, d-fits (c .before)))
+
+sum-squares-requires : tie.Need-sum-squares-requires
+sum-squares-requires c κs =
+    let o = c .before in (
+      s (solved o) .pre .0,
+      length-take-le (o .order .result) (beta (solved o)) (d-fits o) ∙ o .order .ensures,
+    )
+
+outcome-requires-2 : tie.Need-outcome-requires-2
+outcome-requires-2 c κs = search needs
+
+same-length-3 : tie.Need-same-length-3
+same-length-3 c = search needs
+
+same-length-4 : tie.Need-same-length-4
+same-length-4 c = search needs
+
+returns-2 : tie.Need-returns-2
+returns-2 c =
+    let o = c .before .before .before in
+    let g = solved o in
+    completed (s g .args .model) (passed g) _ (g .solve-accepted .result) (g .solve-accepted .ensures) _ _
+    (c .outcome2 .ensures) (o .order .result) (o .order .ensures) (c .before .sum-squares .ensures)
 
 pub fit-accepted-spec : {M : Type 1} → statement M
 fit-accepted-spec =
     tie.close
     (tie.spec
-    order-requires
-    workspace-cells-requires
-    slice-relend-prefix-fit-checked
-    slice-aggregate-fit-checked
-    slice-relend-prefix-fit-checked-2
-    slice-aggregate-fit-checked-2
-    fit-checked-requires
+    solve-accepted-requires
+    enum-told
+    outcome-requires
     same-length
     same-length-2
-    returns)
+    returns
+    order-requires
+    slice-reshare-prefix-sum-squares
+    slice-aggregate-sum-squares
+    sum-squares-requires
+    outcome-requires-2
+    same-length-3
+    same-length-4
+    returns-2)

@@ -1,5 +1,5 @@
 -- `models::prediction::predict_accepted` meets its contract: solved and written, or not solved and left.
-use mathlib.Core.Path.{_≡_, sym, _∙_}
+use mathlib.Core.Path.{_≡_, ap, _∙_}
 use mathlib.Core.Bool.{true, false}
 use mathlib.Core.List.{List}
 use Prim.Native.Nat.{_≤_}
@@ -8,15 +8,16 @@ use denote.Ref.{now}
 use lib.Ieee.{Float}
 use lib.ListN.{length, length-take}
 use Rattle.regression.specs.declared.FitOutcome.{FitOutcome}
+use Rattle.model_fit.specs.declared.training.Solving.{Solving}
 use Rattle.model_fit.specs.Input.{Input, inputAt}
 use Rattle.models.specs.Prediction.{isSolved}
 use Rattle.models.specs.Call.{PredictSlices, predictAt}
 use Rattle.models.proofs.Calls.{Room, room, PredictRoom, predict-room, predicted-within}
+use Rattle.models.proofs.Calls.{is-solved, not-solved, completed, uncompleted}
 use Rattle.models.proofs.Calls.{solved-count, solved-predictions, solved-errors}
 use Rattle.models.proofs.Calls.{unsolved-count, unsolved-predictions, unsolved-errors}
 use lib.Seq.{length-take-le}
 use borrow.Author.Needs.{needs}
-use borrow.Author.Tests.{not-true, not-false}
 use Rattle.models.proofs.prediction.predict_accepted.Statement.{statement}
 use Rattle.models.proofs.prediction.predict_accepted.Tie as tie
 
@@ -43,27 +44,24 @@ module _ (s : tie.Start) where
       let a = s .args in room (a .model) (length (now (a .workspace))) (length (now (a .beta))) (roomy .fitted)
 
 -- places in the code, each as a later one sees it
-abbrev start : tie.After-fit-accepted → tie.Start
+abbrev start : tie.After-solve-accepted → tie.Start
 start g =
     g .before .before .before .before .before .before .before .before .before .before .before .before .before .before
     .before
 
+abbrev solving : tie.After-solve-accepted → Solving
+solving g = g .solve-accepted .result
+
 -- the fit is solved
 module _ (o : tie.After-order) where
-  abbrev fitted : tie.After-fit-accepted
-  fitted = o .before .before .before .before .before .before .before
+  abbrev solved : tie.After-solve-accepted
+  solved = o .before .before .before .before .before .before .before
 
   abbrev s : tie.Start
-  s = start fitted
-
-  abbrev r : FitOutcome
-  r = fitted .fit-accepted .result
+  s = start solved
 
   abbrev beta : List Float
-  beta = fitted .fit-accepted .last .1 .1 .1 .1 .1 .1 .1 .1 .1 .1 .1 .0
-
-  solved : isSolved r ≡ true
-  solved = sym (o .before .before .is-solved .ensures) ∙ not-false _ (o .before .if1 .left)
+  beta = solved .solve-accepted .last .1 .1 .1 .1 .1 .1 .1 .1 .1 .1 .1 .0
 
   -- as many coefficients are lent as there are columns
   d-fits : o .order .result ≤ length beta
@@ -72,17 +70,20 @@ module _ (o : tie.After-order) where
         arith,
         o .order .ensures,
         fit-room s .coefficients,
-        fitted .fit-accepted .kept .1 .1 .1 .1 .1 .1 .1 .1 .1 .1 .1 .0,
+        solved .solve-accepted .kept .1 .1 .1 .1 .1 .1 .1 .1 .1 .1 .1 .0,
       )
 
-fit-accepted-requires : tie.Need-fit-accepted-requires
-fit-accepted-requires c κs =
+solve-accepted-requires : tie.Need-solve-accepted-requires
+solve-accepted-requires c κs =
     let s =
     c .before .before .before .before .before .before .before .before .before .before .before .before .before .before in
     (s .pre .0, roomy s .fitted)
 
-is-solved-requires : tie.Need-is-solved-requires
-is-solved-requires c κs = search needs
+enum-told : tie.Need-enum-told
+enum-told c = search needs
+
+outcome-requires : tie.Need-outcome-requires
+outcome-requires c κs = search needs
 
 same-length : tie.Need-same-length
 same-length c = search needs
@@ -96,9 +97,10 @@ returns c =
     let s = start g in
     let a = s .args in
     let i : Input = passed s in
-    let r : FitOutcome = g .fit-accepted .result in
-    let f = g .fit-accepted .ensures in
-    let u : isSolved r ≡ false = sym (c .before .is-solved .ensures) ∙ not-true _ (c .if1 .taken) in
+    let r : FitOutcome = c .outcome .result in
+    let n = not-solved (solving g) _ (c .before .match .keys2) in
+    let u : isSolved r ≡ false = ap isSolved (c .outcome .ensures) ∙ n in
+    let f = uncompleted (a .model) i _ (solving g) (g .solve-accepted .ensures) _ r (c .outcome .ensures) n in
     predicted-within (a .model) i (held s) _ _ f
     (unsolved-count (a .model) i _ _ r f u)
     (unsolved-predictions (a .model) i _ _ r f u (now (a .predicted)))
@@ -115,13 +117,9 @@ slice-aggregate-write-predictions c = simp length-take (omega (arith, d-fits (c 
 
 write-predictions-requires : tie.Need-write-predictions-requires
 write-predictions-requires c κs =
-    let o = c .before .before in
-    let s = s o in (
-      s .pre .0 .numbered,
-      (
-        (s .pre .0 .rows-max, roomy s .predictions),
-        length-take-le (o .order .result) (beta o) (d-fits o) ∙ o .order .ensures,
-      ),
+    let o = c .before .before in (
+      s o .pre .0,
+      (roomy (s o) .predictions, length-take-le (o .order .result) (beta o) (d-fits o) ∙ o .order .ensures),
     )
 
 write-errors-requires : tie.Need-write-errors-requires
@@ -129,9 +127,12 @@ write-errors-requires c κs =
     let p = c .before .before .before .before in
     let s = s (p .before .before .before) in
     let same = s .pre .0 .observed-long in (
-      omega (arith, same, roomy s .predictions, p .write-predictions .kept .1 .1 .1 .1 .1 .1 .1 .1 .0),
+      omega (arith, same, roomy s .predictions, p .write-predictions .kept .1 .1 .1 .1 .1 .1 .1 .1 .1 .1 .1 .0),
       omega (arith, same, roomy s .errors),
     )
+
+outcome-requires-2 : tie.Need-outcome-requires-2
+outcome-requires-2 c κs = search needs
 
 same-length-3 : tie.Need-same-length-3
 same-length-3 c = search needs
@@ -147,28 +148,34 @@ same-length-6 c = search needs
 
 returns-2 : tie.Need-returns-2
 returns-2 c =
-    let x = c .before .before in
+    let x = c .before .before .before in
     let p = x .before .before .before .before .before in
     let o = p .before .before .before in
+    let g = solved o in
     let a = s o .args in
     let i : Input = passed (s o) in
-    let f = fitted o .fit-accepted .ensures in
     let d = o .order in
     let w = p .write-predictions in
-    let new : List Float = w .last .1 .1 .1 .1 .1 .1 .1 .1 .0 in
+    let new : List Float = w .last .1 .1 .1 .1 .1 .1 .1 .1 .1 .1 .1 .0 in
+    let r : FitOutcome = c .outcome2 .result in
+    let u : isSolved r ≡ true =
+    ap isSolved (c .outcome2 .ensures) ∙ is-solved (solving g) _ (o .before .before .match .keys1) in
+    let f =
+    completed (a .model) i _ (solving g) (g .solve-accepted .ensures) _ r (c .outcome2 .ensures)
+    (d .result) (d .ensures) (w .ensures .1 .1) in
     predicted-within (a .model) i (held (s o)) _ _ f
-    (solved-count (a .model) i _ _ (r o) f (solved o) (d .result) (d .ensures) (w .result) (w .ensures .1))
-    (solved-predictions (a .model) i _ _ (r o) f (solved o) (d .result) (d .ensures) (now (a .predicted)) new
-    (w .ensures .0))
-    (solved-errors (a .model) i _ _ (r o) f (solved o) (d .result) (d .ensures) (now (a .predicted)) new
+    (solved-count (a .model) i _ _ r f u (d .result) (d .ensures) (w .result .inexact) (w .ensures .1 .0))
+    (solved-predictions (a .model) i _ _ r f u (d .result) (d .ensures) (now (a .predicted)) new (w .ensures .0))
+    (solved-errors (a .model) i _ _ r f u (d .result) (d .ensures) (now (a .predicted)) new
     (w .ensures .0) (now (a .error)) _ (s o .pre .0 .observed-long) (x .write-errors .ensures))
 
 pub predict-accepted-spec : {M : Type 1} → statement M
 predict-accepted-spec =
     tie.close
     (tie.spec
-    fit-accepted-requires
-    is-solved-requires
+    solve-accepted-requires
+    enum-told
+    outcome-requires
     same-length
     same-length-2
     returns
@@ -177,6 +184,7 @@ predict-accepted-spec =
     slice-aggregate-write-predictions
     write-predictions-requires
     write-errors-requires
+    outcome-requires-2
     same-length-3
     same-length-4
     same-length-5

@@ -1,5 +1,5 @@
--- `model_fit::training::fit_checked` meets its contract: the workspace is cleared, then holds the normal equations of
--- the training rows, and what the solver says of them is the fit.
+-- `model_fit::training::solve_checked` meets its contract: the workspace is cleared, then holds the normal equations
+-- of the training rows, and what the solver says of them is the fit but for its squared errors.
 use mathlib.Core.Path.{_≡_, sym, ap, _∙_}
 use mathlib.Core.List.{List}
 use Prim.Native.Nat.{ℕ, _<_}
@@ -16,8 +16,8 @@ use Rattle.regression.proofs.Workspace.{cleared-holds}
 use Rattle.model_fit.specs.Input.{inputAt}
 use Rattle.model_fit.specs.Samples.{trainingSamples}
 use Rattle.model_fit.proofs.Fit.{still-workspace, fitted-none, fitted-unsolved, fitted-solved}
-use Rattle.model_fit.proofs.training.fit_checked.Statement.{statement}
-use Rattle.model_fit.proofs.training.fit_checked.Tie as tie
+use Rattle.model_fit.proofs.training.solve_checked.Statement.{statement}
+use Rattle.model_fit.proofs.training.solve_checked.Tie as tie
 
 -- places in the code, each as a later one sees it
 abbrev start : tie.After-clear → tie.Start
@@ -113,14 +113,6 @@ returns-2 c =
     fitted-unsolved (order t) (training t) (held t) (cells (d e)) (t .pre .1 .0) (summed (d e)) (some e) (solved e)
     (rw (o, c .enum-told .given .1) at (e .solve .ensures))
 
-sum-squares-requires : tie.Need-sum-squares-requires
-sum-squares-requires c κs =
-    let e = c .before .before .before .before .before .before .before .before in
-    (s (d e) .pre .0, e .solve .kept .1 .1 .0 ∙ s (d e) .pre .1 .1)
-
-r2-requires : tie.Need-r2-requires
-r2-requires c κs = search needs
-
 same-length-4 : tie.Need-same-length-4
 same-length-4 c = search needs
 
@@ -129,17 +121,16 @@ same-length-5 c = search needs
 
 returns-3 : tie.Need-returns-3
 returns-3 c =
-    let f = c .before .before .before .before in
+    let f = c .before in
     let e = f .before .before .before .before .before .before in
     let o = e .before .before .before .order .ensures in
     let t = s (d e) in
     fitted-solved (order t) (training t) (held t) (cells (d e)) (t .pre .1 .0) (summed (d e)) (some e) (solved e)
-    _ (c .before .sum-squares .result) (c .r2 .result) (d e .accumulate .result)
-    (rw (o, f .first .given .1) at (e .solve .ensures)) (e .solve .kept .1 .1 .0) (c .before .sum-squares .ensures)
-    (c .r2 .ensures) (d e .accumulate .ensures .sums)
+    _ (d e .accumulate .result) (rw (o, f .first .given .1) at (e .solve .ensures)) (e .solve .kept .1 .1 .0)
+    (d e .accumulate .ensures .sums)
 
-pub fit-checked-spec : {M : Type 1} → statement M
-fit-checked-spec =
+pub solve-checked-spec : {M : Type 1} → statement M
+solve-checked-spec =
     tie.close
     (tie.spec
     clear-requires
@@ -153,8 +144,6 @@ fit-checked-spec =
     same-length-2
     same-length-3
     returns-2
-    sum-squares-requires
-    r2-requires
     same-length-4
     same-length-5
     returns-3)
