@@ -239,8 +239,8 @@ fn predict_whole(model: Model, letters: &[u8], log: f64, mass: f32, charge: u8, 
 
 // The prediction for a peptide's letters, log and mass and a charge, before it is clamped. `finite` says whether all
 // coefficients are. `head` is room for the first cells of the design row, and `places` and `values` are room for the
-// others that are not zero. For this crate and the models, which have checked the table.
-pub fn predict_peptide(
+// others that are not zero.
+fn predict_peptide(
     model: Model,
     letters: &[u8],
     log: f64,
