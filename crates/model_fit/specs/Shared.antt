@@ -18,8 +18,8 @@ use Rattle.regression.specs.declared.Sums.{Sums}
 use Rattle.regression.specs.declared.FitOutcome.{FitOutcome}
 use Rattle.regression.specs.declared.FitOutcome.the-variants.{Solved, NoTrainingRows, NotSolved}
 use Rattle.model_fit.specs.declared.training.Solving.{Solving}
-use Rattle.model_fit.specs.declared.training.Solving.the-variants.{Solved as SolvedWith, NoTrainingRows as NoRows}
-use Rattle.model_fit.specs.declared.training.Solving.the-variants.{NotSolved as Unsolved}
+use Rattle.model_fit.specs.declared.training.Solving.the-variants.{Solved as SolvedWith, NotSolved as Unsolved}
+use Rattle.model_fit.specs.declared.training.Solving.the-variants.{NoTrainingRows as NoRows}
 use Rattle.model_fit.specs.Input.{Input}
 use Rattle.model_fit.specs.Samples.{trainingSamples, fitOfInput}
 

@@ -33,8 +33,7 @@ use regression::FirstRidge;
 use regression::FitOutcome;
 use regression::Sums;
 
-// How far a fit is before its squared errors: solved with a ridge, with the sums of its targets, or not, as an outcome
-// is.
+// A fit without its squared errors: the ridge that solves it with the sums of the targets, or why none does.
 pub enum Solving {
     Solved { ridge: f64, sums: Sums },
     NoTrainingRows,

@@ -29,8 +29,8 @@ use Rattle.model_fit.specs.Input.{Input, queries, fitRoom}
 use Rattle.model_fit.specs.Samples.{trainingSamples, fitOfInput}
 use Rattle.model_fit.specs.Shared.{FittedBy, outcomeOf, SolvedRows}
 use Rattle.model_fit.specs.declared.training.Solving.{Solving}
-use Rattle.model_fit.specs.declared.training.Solving.the-variants.{Solved as SolvedWith, NoTrainingRows as NoRows}
-use Rattle.model_fit.specs.declared.training.Solving.the-variants.{NotSolved as Unsolved}
+use Rattle.model_fit.specs.declared.training.Solving.the-variants.{Solved as SolvedWith, NotSolved as Unsolved}
+use Rattle.model_fit.specs.declared.training.Solving.the-variants.{NoTrainingRows as NoRows}
 use Rattle.model_fit.proofs.training.Solving.{the-type}
 use Rattle.matrix.specs.Lists.{overwritten}
 use Rattle.matrix.proofs.Lists.{overwrite-part, zipWith-append, zipWith-none}

@@ -10,7 +10,7 @@ use lib.ListN.{length, length-take}
 use lib.Seq.{length-take-le}
 use borrow.Author.Needs.{needs}
 use Rattle.model_fit.specs.Input.{Input, inputAt}
-use Rattle.models.proofs.Calls.{Room, room, not-solved, completed, uncompleted}
+use Rattle.models.proofs.Calls.{room, not-solved, completed, uncompleted}
 use Rattle.models.proofs.prediction.fit_accepted.Statement.{statement}
 use Rattle.models.proofs.prediction.fit_accepted.Tie as tie
 

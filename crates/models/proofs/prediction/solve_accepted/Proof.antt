@@ -87,8 +87,8 @@ returns c =
     let l = f .solve-checked .last .1 .1 .1 .1 .1 .1 .1 .1 .1 .1 in
     let before : FitSlices = record { workspace = now (a .workspace); coefficients = now (a .beta) } in
     let after : FitSlices = record { workspace = l .0; coefficients = l .1 .0 } in
-    solved-within (a .model) i (k w) (d w) before after (f .solve-checked .result) (k-is w) (d-is w) (k-fits w) (d-fits w)
-    (f .solve-checked .kept .1 .1 .1 .1 .1 .1 .1 .1 .1 .1 .1 .0) (f .solve-checked .ensures)
+    solved-within (a .model) i (k w) (d w) before after (f .solve-checked .result) (k-is w) (d-is w)
+    (k-fits w) (d-fits w) (f .solve-checked .kept .1 .1 .1 .1 .1 .1 .1 .1 .1 .1 .1 .0) (f .solve-checked .ensures)
 
 pub solve-accepted-spec : {M : Type 1} → statement M
 solve-accepted-spec =
