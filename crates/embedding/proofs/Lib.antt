@@ -9,3 +9,4 @@ pub mod Appending
 pub mod Pairs
 pub mod Seen
 pub mod Shares
+pub mod Finite

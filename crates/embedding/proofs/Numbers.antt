@@ -18,7 +18,7 @@ use lib.Ieee.Fits.{up-pos, down-pos}
 use lib.Ieee.Scale.{round-same}
 use borrow.Author.Tests.{ne-eqb}
 use Rattle.float.specs.Number.{number}
-use Rattle.float.specs.Value.{isZero, notMinusZero}
+use Rattle.float.specs.Value.{isFinite, isZero, notMinusZero}
 use Rattle.float.proofs.Zeros.{round-zero, round-something}
 use Rattle.embedding.specs.Design.{share}
 use Rattle.embedding.specs.Listing.{seenIn}
@@ -43,6 +43,17 @@ some-value (fin t (suc m) e) s a b v h = refl
 pub number-some : (c : ℕ) → 0 < c → c ≤ 2 ^ 53 → isZero (number c) ≡ false
 unfolding ofInt
 number-some c h l = some-value (number c) false c 1 (round-whole binary64 false c l) h
+
+-- and all of them are finite
+finite-value : (x : Float) (s : Bool) (a b : ℕ) → HasValue x s a b → isFinite x ≡ true
+unfolding isFinite
+finite-value nan s a b v = absurd v
+finite-value (inf t) s a b v = absurd v
+finite-value (fin t m e) s a b v = refl
+
+pub number-finite : (c : ℕ) → c ≤ 2 ^ 53 → isFinite (number c) ≡ true
+unfolding ofInt
+number-finite c l = finite-value (number c) false c 1 (round-whole binary64 false c l)
 
 -- ---- quotients
 

@@ -20,7 +20,7 @@ unfolding div
 share-at whole cells k = sym (List·getD-map (λ x. div binary64 x whole) cells k nan)
 
 -- a count is at most the number of letters
-counts-le : (letters : List ℕ) (k : ℕ) → getD (columnCounts letters) k 0 ≤ length letters
+pub counts-le : (letters : List ℕ) (k : ℕ) → getD (columnCounts letters) k 0 ≤ length letters
 unfolding columnCounts
 counts-le letters k = by (decLt k 22)
   where

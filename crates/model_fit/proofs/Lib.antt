@@ -3,3 +3,4 @@ pub mod Laws
 pub mod Rows
 pub mod Status
 pub mod Fit
+pub mod Finite

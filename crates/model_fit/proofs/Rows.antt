@@ -87,10 +87,11 @@ module _ (t : Table) (p : ℕ) (letters : List ℕ)
 
   -- its design row
   pub looked-up : (model : Model) (z z₁ : ℕ) (log mass : Float) → log ≡ getD (t .logs) p nan
-      → mass ≡ getD (t .masses) p nan
+      → ((ls : List ℕ) (l : Float) (c : ℕ) → design model ls l mass c ≡ design model ls l (getD (t .masses) p nan) c)
       → z ≡ z₁
       → design model letters log mass z ≡ designOf model t (queryOf p z₁)
-  looked-up model z z₁ log mass is-log is-mass e = rw (is-sequence, is-log, is-mass, e)
+  looked-up model z z₁ log mass is-log is-mass e =
+      is-mass letters log z ∙ rw (is-sequence, is-log, e)
 
 -- ---- samples
 

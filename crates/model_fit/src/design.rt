@@ -1,8 +1,11 @@
 // What the models read of a row and its peptide.
 ghost use mathlib.Core.Path.{_≡_};
-ghost use Prim.Native.Nat.{_<_};
+ghost use mathlib.Core.List.{List};
+ghost use Prim.Native.Nat.{ℕ, _<_};
 ghost use lib.ListN.{length, getD};
-ghost use lib.Ieee.{nan};
+ghost use lib.Ieee.{Float, nan};
+ghost use Rattle.embedding.specs.Design.{design};
+use embedding::Model;
 use matrix::PeptideIx;
 
 // The charge of row i; 0 where the model has no charges.
@@ -26,11 +29,19 @@ pub fn log_at(logs: &[f64], p: PeptideIx) -> f64
     0.0 / 0.0
 }
 
-// A peptide's mass. For this crate and the models, which have checked the peptide's number.
-pub fn mass_at(masses: &[f32], p: PeptideIx) -> f32
+// A peptide's mass as far as the model's design row reads it: retention's does not, and what is not read is not
+// fetched. For this crate, which has checked the peptide's number.
+pub fn mass_at(model: Model, masses: &[f32], p: PeptideIx) -> f32
     requires { ⌜ p .0 < length (now masses) ⌝ }
-    ensures { λ r. ⌜ r ≡ getD (now (masses .entry)) (p .0) nan ⌝ }
+    ensures { λ r. ⌜ ((letters : List ℕ) (log : Float) (charge : ℕ)
+        → design model letters log r charge
+        ≡ design model letters log (getD (now (masses .entry)) (p .0) nan) charge) ⌝ }
 {
-    let i = p.0 as usize;
-    masses[i]
+    match model {
+        Model::Retention => 0.0,
+        Model::Mobility => {
+            let i = p.0 as usize;
+            masses[i]
+        }
+    }
 }

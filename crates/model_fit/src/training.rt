@@ -128,6 +128,34 @@ fn add_whole(
     regression::add_row_sparse(workspace, d, &row[..w], places, starts);
 }
 
+// Whether no cell of a sample, which is listed, is a NaN or an infinity. Retention's other cells are whole numbers, so
+// that the log and the target alone can be one.
+fn is_finite(
+    model: Model,
+    letters: &[u8],
+    log: f64,
+    mass: f32,
+    charge: u8,
+    y: f64,
+    places: &[usize],
+    values: &[f64],
+) -> bool
+    requires { ⌜ length (now letters) ≤ maxLetters ⌝ }
+    requires { ⌜ Nonzeros 0 (extended (sampleFrom (design model (now letters) log mass charge) y))
+        (now places) (now values) ⌝ }
+    ensures { λ r. ⌜ r ≡ allFinite (now (values .entry)) ⌝ }
+{
+    match model {
+        Model::Retention => {
+            if !regression::is_finite(log) {
+                return false;
+            }
+            regression::is_finite(y)
+        }
+        Model::Mobility => regression::all_finite(values),
+    }
+}
+
 // Adds a sample to the normal equations in `workspace`: the design row of a peptide's letters, log and mass and of a
 // charge, and its target. `places` and `values` are room for its cells that are not zero. `starts` has the starts of
 // the stored rows.
@@ -153,7 +181,16 @@ fn add_sample(
         (now (workspace .entry))) ⌝ }
 {
     let n = list_sample(model, letters, log, mass, charge, y, places, values);
-    if !regression::all_finite(&values[..n]) {
+    if !is_finite(
+        model,
+        letters,
+        log,
+        mass,
+        charge,
+        y,
+        &places[..n],
+        &values[..n],
+    ) {
         add_whole(
             model,
             letters,
@@ -207,7 +244,7 @@ fn accumulate(
         let p = PeptideIx(number);
         let sequence = peptide::sequence(letters, offsets, p);
         let log = log_at(logs, p);
-        let mass = mass_at(masses, p);
+        let mass = mass_at(model, masses, p);
         add_sample(
             model,
             sequence,
@@ -295,7 +332,7 @@ pub fn predict_row(
     let p = PeptideIx(number);
     let sequence = peptide::sequence(letters, offsets, p);
     let log = log_at(logs, p);
-    let mass = mass_at(masses, p);
+    let mass = mass_at(model, masses, p);
     predict_peptide(
         model,
         sequence,

@@ -64,7 +64,8 @@ abbrev pub rowsOf : Four → List (ℕ × Float)
 rowsOf r = (r .a, r .w) ∷ (r .b, r .x) ∷ (r .c, r .y) ∷ (r .d, r .z) ∷ []
 
 -- for each of these columns, by its place and its value
-abbrev pub columnsAdded : (rows : List (ℕ × Float)) (places : List ℕ) (values : List Float) → List Float → List Float
+abbrev pub columnsAdded : (rows : List (ℕ × Float)) (places : List ℕ) (values : List Float)
+    → List Float → List Float
 columnsAdded rows [] values acc = acc
 columnsAdded rows (c ∷ places) [] acc = acc
 columnsAdded rows (c ∷ places) (v ∷ values) acc = columnsAdded rows places values (columnAdded rows c v acc)

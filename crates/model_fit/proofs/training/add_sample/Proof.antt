@@ -64,20 +64,28 @@ module _ (o : tie.After-list-sample) where
 list-sample-requires : tie.Need-list-sample-requires
 list-sample-requires c κs = search needs
 
-slice-reshare-prefix-all-finite : tie.Need-slice-reshare-prefix-all-finite
-slice-reshare-prefix-all-finite c = search needs
+slice-reshare-prefix-is-finite : tie.Need-slice-reshare-prefix-is-finite
+slice-reshare-prefix-is-finite c = search needs
 
-slice-aggregate-all-finite : tie.Need-slice-aggregate-all-finite
-slice-aggregate-all-finite c =
+slice-aggregate-is-finite : tie.Need-slice-aggregate-is-finite
+slice-aggregate-is-finite c =
     let o = c .before .before .before .before .before in
+    sym (length-take-le (n o) (places o) (omega (arith, few o .0)))
+
+slice-reshare-prefix-is-finite-2 : tie.Need-slice-reshare-prefix-is-finite-2
+slice-reshare-prefix-is-finite-2 c = search needs
+
+slice-aggregate-is-finite-2 : tie.Need-slice-aggregate-is-finite-2
+slice-aggregate-is-finite-2 c =
+    let o = c .before .before .before .before .before .before in
     sym (length-take-le (n o) (values o) (omega (arith, few o .1)))
 
-all-finite-requires : tie.Need-all-finite-requires
-all-finite-requires c κs = search needs
+is-finite-requires : tie.Need-is-finite-requires
+is-finite-requires c κs = let o = c .before .before .before .before .before .before in (s o .pre .0, o .list-sample .ensures .1)
 
 add-whole-requires : tie.Need-add-whole-requires
 add-whole-requires c κs =
-    let o = c .before .before .before .before .before .before .before .before .before in
+    let o = c .before .before .before .before .before .before .before .before .before .before in
     let k = o .list-sample .kept .1 .1 .1 .1 .1 .1 .0 in
     (s o .pre .0, ((omega (arith, s o .pre .1 .0 .0, k), s o .pre .1 .1 .0), s o .pre .1 .1 .1))
 
@@ -101,7 +109,7 @@ slice-reshare-prefix-add-row-listed c = search needs
 
 slice-aggregate-add-row-listed : tie.Need-slice-aggregate-add-row-listed
 slice-aggregate-add-row-listed c =
-    let o = c .before .before .before .before .before .before .before .before .before .before in
+    let o = c .before .before .before .before .before .before .before .before .before .before .before in
     sym (length-take-le (n o) (places o) (omega (arith, few o .0)))
 
 slice-reshare-prefix-add-row-listed-2 : tie.Need-slice-reshare-prefix-add-row-listed-2
@@ -109,15 +117,15 @@ slice-reshare-prefix-add-row-listed-2 c = search needs
 
 slice-aggregate-add-row-listed-2 : tie.Need-slice-aggregate-add-row-listed-2
 slice-aggregate-add-row-listed-2 c =
-    let o = c .before .before .before .before .before .before .before .before .before .before .before in
+    let o = c .before .before .before .before .before .before .before .before .before .before .before .before in
     sym (length-take-le (n o) (values o) (omega (arith, few o .1)))
 
 add-row-listed-requires : tie.Need-add-row-listed-requires
 add-row-listed-requires c κs =
     let e = c .before .before .before in
     let f = e .before in
-    let o = e .before .before .before .before .before .before .before .before in
-    let finite = sym (f .before .all-finite .ensures) ∙ not-false _ (f .if1 .left) in (
+    let o = e .before .before .before .before .before .before .before .before .before in
+    let finite = sym (f .before .is-finite .ensures) ∙ not-false _ (f .if1 .left) in (
       (rw (e .order .ensures) (s o .pre .1 .1 .1), rw (e .order .ensures) (s o .pre .1 .1 .0)),
       (finite, (ext o, rw (e .order .ensures) (listed o))),
     )
@@ -135,7 +143,7 @@ returns-2 : tie.Need-returns-2
 returns-2 c =
     let a = c .before .before in
     let e = a .before .before .before .before in
-    let o = e .before .before .before .before .before .before .before .before in
+    let o = e .before .before .before .before .before .before .before .before .before in
     rw (e .order .ensures) at (a .add-row-listed .ensures .0) (ext o) (listed o)
 
 pub add-sample-spec : {M : Type 1} → statement M
@@ -143,9 +151,11 @@ add-sample-spec =
     tie.close
     (tie.spec
     list-sample-requires
-    slice-reshare-prefix-all-finite
-    slice-aggregate-all-finite
-    all-finite-requires
+    slice-reshare-prefix-is-finite
+    slice-aggregate-is-finite
+    slice-reshare-prefix-is-finite-2
+    slice-aggregate-is-finite-2
+    is-finite-requires
     add-whole-requires
     same-length
     same-length-2
