@@ -1,5 +1,6 @@
 // The residues of sage's mass.rs: `VALID_AA`, and the column that a letter has in an embedding.
 ghost use mathlib.Core.Path.{_≡_};
+ghost use Prim.Native.Nat.{_+_, _≤_};
 ghost use Rattle.mass.specs.Mass.{columnOf, isLetter, residueAt};
 
 // The residues that have a column of their own, in the order of their columns.
@@ -18,34 +19,49 @@ pub fn is_letter(byte: u8) -> bool
     b'A' <= byte && byte <= b'Z'
 }
 
+// A letter's place in the alphabet, A's being 0, and Z's for a byte that is no letter: neither has a column of its own.
+fn alphabet_place(byte: u8) -> u8
+    ensures { λ r. ⌜ (r ≤ 25) × (columnOf (65 + r) ≡ columnOf byte) ⌝ }
+{
+    if is_letter(byte) {
+        return byte - b'A';
+    }
+    b'Z' - b'A'
+}
+
 // The column of a residue's letter, its place in VALID_AA: below 22 for every byte, and 0 for one that is not in it.
-// A `match`, which compiled code looks up in a table that it never lays out.
+// Each place of the alphabet but Y's is an arm: compiled code then looks every letter up in one table, which it never
+// lays out, and no letter takes a branch of its own.
 pub fn column(letter: u8) -> usize
     ensures { λ r. ⌜ r ≡ columnOf letter ⌝ }
 {
-    match letter {
-        b'C' => 1,
-        b'D' => 2,
-        b'E' => 3,
-        b'F' => 4,
-        b'G' => 5,
-        b'H' => 6,
-        b'I' => 7,
-        b'K' => 8,
-        b'L' => 9,
-        b'M' => 10,
-        b'N' => 11,
-        b'P' => 12,
-        b'Q' => 13,
-        b'R' => 14,
-        b'S' => 15,
-        b'T' => 16,
-        b'V' => 17,
-        b'W' => 18,
-        b'Y' => 19,
-        b'U' => 20,
-        b'O' => 21,
-        _ => 0,
+    match alphabet_place(letter) {
+        0 => 0, // A
+        1 => 0, // B
+        2 => 1, // C
+        3 => 2, // D
+        4 => 3, // E
+        5 => 4, // F
+        6 => 5, // G
+        7 => 6, // H
+        8 => 7, // I
+        9 => 0, // J
+        10 => 8, // K
+        11 => 9, // L
+        12 => 10, // M
+        13 => 11, // N
+        14 => 21, // O
+        15 => 12, // P
+        16 => 13, // Q
+        17 => 14, // R
+        18 => 15, // S
+        19 => 16, // T
+        20 => 20, // U
+        21 => 17, // V
+        22 => 18, // W
+        23 => 0, // X
+        25 => 0, // Z
+        _ => 19, // Y
     }
 }
 
