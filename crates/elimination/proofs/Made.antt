@@ -2,7 +2,7 @@
 -- them. Cells of a row and rows of a matrix both go by these laws.
 use mathlib.Core.Path.{_≡_, refl, sym, ap}
 use mathlib.Core.List.{List, [], _∷_, map}
-use Prim.Native.Nat.{ℕ, zero, suc, _≤_, _<_}
+use Prim.Native.Nat.{ℕ, zero, suc, _≤_}
 use native.Mathlib.Nat.{le-of-suc-le-suc, not-suc-le-zero, le-of-eq}
 use native.Mathlib.Omega.{arith}
 use lib.ListN.{length, getD, set, replicate}
@@ -50,26 +50,6 @@ module _ {A : Type 0} where
   made-all g (suc j) [] h = refl
   made-all g (suc j) (x ∷ xs) h =
       ap {B = List A} (λ r. g zero x ∷ r) (made-all (λ i. g (suc i)) j xs (le-of-suc-le-suc h))
-
-  -- what would stay as it is need not be made anew
-  pub made-skip : (g : ℕ → A → A) (a b : ℕ) (xs : List A) (d : A) → a ≤ b
-      → ((i : ℕ) → a ≤ i → i < b → i < length xs → g i (getD xs i d) ≡ getD xs i d)
-      → made g a xs ≡ made g b xs
-  unfolding made
-  made-skip g zero zero xs d h same = refl
-  made-skip g zero (suc b) [] d h same = refl
-  made-skip g zero (suc b) (x ∷ xs) d h same =
-      cc (
-        same 0 (omega arith) (omega arith) (omega arith),
-        made-skip (λ i. g (suc i)) zero b xs d (omega arith)
-            (λ i l m n. same (suc i) (omega arith) (omega arith) (omega arith)),
-      )
-  made-skip g (suc a) zero xs d h same = absurd (not-suc-le-zero h)
-  made-skip g (suc a) (suc b) [] d h same = refl
-  made-skip g (suc a) (suc b) (x ∷ xs) d h same =
-      ap {B = List A} (λ r. g zero x ∷ r)
-      (made-skip (λ i. g (suc i)) a b xs d (le-of-suc-le-suc h)
-      (λ i l m n. same (suc i) (omega arith) (omega arith) (omega arith)))
 
   -- each element by one function
   pub made-map : (f : A → A) (j : ℕ) (xs : List A) → length xs ≤ j → made (λ i. f) j xs ≡ map f xs

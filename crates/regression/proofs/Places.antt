@@ -1,24 +1,18 @@
 -- A loop over the places of the cells that are not zero: what is left of them and of their values at a turn.
 use mathlib.Core.Path.{_≡_, refl, sym, ap, _∙_}
-use mathlib.Core.Bool.{true, false}
-use mathlib.Core.List.{List, [], _∷_, _++_, append-assoc}
-use Prim.Native.Nat.{ℕ, zero, suc, _+_, _-_, _≤_, _<_}
-use native.Mathlib.Nat.{zero-add, suc-add, lt-of-not-le}
+use mathlib.Core.List.{List, [], _∷_, _++_}
+use Prim.Native.Nat.{ℕ, suc, _+_, _-_, _≤_, _<_}
+use native.Mathlib.Nat.{lt-of-not-le}
 use native.Mathlib.Decide.{decLe}
 use native.Mathlib.Numerals.{add-one}
 use native.Mathlib.Omega.{arith}
-use lib.ListN.{length, getD, set, take, drop, length-append, length-set, length-drop, take-append-drop}
-use lib.ListN.{drop-of-length-le, List·getD-append}
-use lib.Seq.{drop-cons, drop-at, set-append-left, getD-append-add, getD-drop}
+use lib.ListN.{length, getD, take, drop, length-append, length-drop, take-append-drop}
+use lib.ListN.{drop-of-length-le}
+use lib.Seq.{drop-cons, drop-at, getD-drop}
 use lib.Ieee.{Float, nan}
-use Rattle.float.specs.Value.{isZero}
-use Rattle.matrix.specs.Lists.{zipped}
-use Rattle.elimination.proofs.Made.{made, made-suc, made-skip, made-zipped}
-use Rattle.regression.specs.Regression.{plusScaled}
 use Rattle.matrix.specs.Nonzero.{nonzeros, nonzeroCells, Nonzeros}
 use Rattle.matrix.proofs.Nonzero.{cells-append, as-many}
-use Rattle.regression.specs.Sparse.{plusNonzero}
-use Rattle.regression.proofs.Visited.{Next, next, none-left, nonzeros-here}
+use Rattle.regression.proofs.Visited.{Next, next, nonzeros-here}
 
 -- ---- the places that are left
 

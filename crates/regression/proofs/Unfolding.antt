@@ -2,7 +2,7 @@
 -- a row, and row after row written.
 use mathlib.Core.Path.{_≡_, sym, ap, _∙_}
 use mathlib.Core.List.{List, [], _++_, append-assoc}
-use Prim.Native.Nat.{ℕ, suc, _+_, _-_, _*_, _≤_, _<_, min, max}
+use Prim.Native.Nat.{ℕ, _+_, _-_, _*_, _≤_, _<_, min, max}
 use native.Mathlib.Numerals.{add-one}
 use native.Mathlib.Omega.{arith}
 use lib.ListN.{length, getD, set, take, drop, length-append}
@@ -15,7 +15,7 @@ use Rattle.matrix.proofs.Laws.{put, row-end, length-rowsOf, rowsOf-put-row, fla
 use Rattle.elimination.proofs.Made.{made, made-suc, made-copy}
 use Rattle.regression.specs.Falling.{fallingRows, fallingStart}
 use Rattle.regression.specs.Triangle.{mirrored, unfolded}
-use Rattle.regression.proofs.Falling.{start-next, row-ends, cell-falling}
+use Rattle.regression.proofs.Falling.{row-ends, cell-falling}
 
 -- ---- a row
 

@@ -4,7 +4,7 @@
 use mathlib.Core.Path.{_≡_, refl, sym, ap, _∙_}
 use mathlib.Core.Bool.{Bool, true, false, _||_, cond}
 use mathlib.Core.List.{List, [], _∷_, _++_, map}
-use Prim.Native.Nat.{ℕ, zero, suc, _+_, _-_, _/_, _≤_, _<_}
+use Prim.Native.Nat.{ℕ, zero, suc, _+_, _-_, _≤_, _<_}
 use native.Mathlib.Nat.{le-of-suc-le-suc, not-suc-le-zero, lt-of-not-le}
 use native.Mathlib.Decide.{decLe}
 use native.Mathlib.Omega.{arith}
@@ -156,17 +156,6 @@ nonzeros-below j (x ∷ xs) p h = by (isZero x) p h (nonzeros-below (suc j) xs)
     by true p h more = omega (arith, more p h)
     by false zero h more = omega arith
     by false (suc p) h more = omega (arith, more p (le-of-suc-le-suc h))
-
--- ---- a row of a zero column stays as it is
-
-zero-cell : (x c y : Float) → isZero x ≡ true → plusNonzero x c y ≡ c
-zero-cell x c y z = rw z
-
-pub zero-row : (x : Float) (row rest : List Float) → isZero x ≡ true → zipped (plusNonzero x) row rest ≡ row
-unfolding zipped
-zero-row x [] rest z = refl
-zero-row x (c ∷ row) [] z = refl
-zero-row x (c ∷ row) (y ∷ rest) z = cc (zero-cell x c y z, zero-row x row rest z)
 
 -- ---- skipping zeros changes no sum that began at +0.0
 

@@ -16,7 +16,6 @@ use Rattle.regression.specs.Sparse.{ListedRow, plusNonzero, Addable, Run
 use Rattle.regression.proofs.Begun.{within-row}
 use Rattle.regression.proofs.Walk.{Walked, walk-begins, block-walked, all-walked, columns-are, in-rows, few}
 use Rattle.regression.proofs.Walk.{target, count-kinds}
-use borrow.Author.Needs.{needs}
 use Rattle.regression.proofs.sparse.add_listed.Statement.{statement}
 use Rattle.regression.proofs.sparse.add_listed.Tie as tie
 
