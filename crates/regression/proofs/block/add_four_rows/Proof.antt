@@ -17,16 +17,7 @@ use borrow.Author.Tests.{ltb-true}
 use Rattle.regression.proofs.block.add_four_rows.Statement.{statement}
 use Rattle.regression.proofs.block.add_four_rows.Tie as tie
 
--- a part up to the end
-length-take-drop : {A : Type 0} (k : ℕ) (xs : List A) → length (take (length xs - k) (drop k xs)) ≡ length xs - k
-length-take-drop k xs = ap length (take-all (length xs - k) (drop k xs) (rw length-drop
-    (omega arith))) ∙ length-drop k xs
-
-part-cell : (k : ℕ) (xs : List ℕ) (p : ℕ) → p < length xs - k
-    → getD (take (length xs - k) (drop k xs)) p 0 ≡ getD xs (k + p) 0
-part-cell k xs p h = getD-take (length xs - k) (drop k xs) p 0 h ∙ getD-drop k xs p 0
-
--- a part of n
+-- a part of n cells
 length-part : {A : Type 0} (k n : ℕ) (xs : List A) → k + n ≤ length xs → length (take n (drop k xs)) ≡ n
 length-part k n xs h = length-take-le n (drop k xs) (rw length-drop (omega arith))
 
@@ -216,7 +207,9 @@ add-runs-requires c κs =
     let some : a .h < length (now (a .places)) = ltb-true (a .h) (length (now (a .places))) (c .before
     .before .before .before .before .before .before .before .before .if2 .taken) in
     let r = s d .pre .2 .long some in
-    let long = length-take-drop (a .h) (now (a .values)) ∙ ap (λ (n : ℕ). n - a .h) (many (s d)) in
+    let w = many (s d) in
+    let long = length-part (a .h) (length (now (a .values)) - a .h) (now (a .values)) (omega (arith, some, w))
+    ∙ ap (λ (n : ℕ). n - a .h) w in
     let n = length (now (a .places)) - 1 in
     let last = run-end d some in (
       (rw long r, omega (arith, k, long, last, fits d 0 n (omega arith) (omega arith) (omega arith))),
@@ -298,12 +291,16 @@ add-columns-requires-2 c κs =
     let a = s d .args in
     let from = a .m + 3 in
     let k = t .add-third .kept .0 ∙ e .add-first .kept .0 in
-    let long = length-take-drop from (now (a .places)) in (
-      length-take-drop from (now (a .values)) ∙ ap (λ (n : ℕ). n - from) (many (s d)) ∙ sym long,
+    let m = s d .pre .3 in
+    let w = many (s d) in
+    let n = length (now (a .places)) - from in
+    let long = length-part from n (now (a .places)) (omega (arith, m)) in (
+      length-part from (length (now (a .values)) - from) (now (a .values)) (omega (arith, m, w))
+          ∙ ap (λ (k : ℕ). k - from) w ∙ sym long,
       λ p l.
-          let at = part-cell from (now (a .places)) p (omega (arith, long)) in
-          let r = from + p in
-          let u = rw long at l in (
+          let u = rw long at l in
+          let at = cell-part from n (now (a .places)) p u in
+          let r = from + p in (
             omega (arith, k, at, fits d 0 r (omega arith) (omega arith) (omega (arith, u))),
             omega (arith, k, at, fits d 1 r (omega arith) (omega arith) (omega (arith, u))),
             omega (arith, k, at, fits d 2 r (omega arith) (omega arith) (omega (arith, u))),
