@@ -12,7 +12,7 @@ use native.Mathlib.Omega.{arith}
 use lib.IntN.{ℤ, pos, negsuc}
 use lib.Dec.{T, ltb, leb, eqb, leb→le}
 use lib.Ieee.{Float, nan, inf, fin, Format, binary32, binary64, low, prec, emax, nearest, up, down, unlike, round}
-use lib.Ieee.{units, odd, size, span, climb, sum, neg, add, sub, mul, eq, ne, fits, ofBits, toBits, top}
+use lib.Ieee.{units, odd, size, span, climb, sum, neg, add, sub, mul, eq, fits, ofBits, toBits, top}
 use lib.Ieee.Digits.{size-lt, size-reaches}
 use lib.Ieee.Exact.{HasValue, odd-sign}
 use lib.Ieee.Fits.{two, up-pos, down-pos, and-l, and-r, neg-fits, add-fits}
@@ -385,20 +385,6 @@ is-zero (fin s (suc m) e) =
     let some : 0 < suc m * up e = mul-pos (zero-lt-suc m) (up-pos e) in
     let differs : suc m * up e ≡ 0 → ⊥ = λ h. lt-irrefl 0 (subst (λ (n : ℕ). 0 < n) h some) in
     rw (zero-mul (down e), mul-one (suc m * up e), ne-eqb (suc m * up e) 0 differs)
-
--- x * 0.0 != 0.0
-pub is-not-finite : (x : Float) → ne (mul binary64 x (zeroOf false)) (zeroOf false) ≡ not (isFinite x)
-unfolding ne mul isFinite
-is-not-finite nan = refl
-is-not-finite (inf s) = refl
-is-not-finite (fin s m e) =
-    ap (λ (t : Float). ne t (zeroOf false))
-    (mul-commutes binary64 (fin s m e) (zeroOf false) ∙ mul-zero binary64 false s (pos 0) m e)
-    ∙ signs (unlike false s)
-  where
-    signs : (t : Bool) → ne (zeroOf t) (zeroOf false) ≡ false
-    signs true = refl
-    signs false = refl
 
 -- the pattern of a zero
 pub zero-bits : (x : Float) → isZero x ≡ true → notMinusZero x ≡ eqb (toBits binary64 x) 0

@@ -147,10 +147,10 @@ fn is_finite(
 {
     match model {
         Model::Retention => {
-            if !regression::is_finite(log) {
+            if !float::is_finite64(log) {
                 return false;
             }
-            regression::is_finite(y)
+            float::is_finite64(y)
         }
         Model::Mobility => regression::all_finite(values),
     }

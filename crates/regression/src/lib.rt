@@ -8,7 +8,6 @@ ghost use mathlib.Core.List.{List, _++_};
 ghost use Prim.Native.Nat.{_+_, _-_, _≤_, _<_};
 ghost use lib.ListN.{length, take, drop};
 ghost use lib.Ieee.{Float};
-ghost use Rattle.float.specs.Value.{isFinite};
 ghost use Rattle.matrix.specs.Rows.{flat};
 ghost use Rattle.matrix.specs.Lists.{zipped, tabulate};
 ghost use Rattle.status.specs.Limits.{maxOrder, maxRows};
@@ -144,16 +143,6 @@ pub fn put_starts(starts: &mut [usize], d: usize)
         start = start + (d + 1 - j);
         j += 1;
     }
-}
-
-// Whether a number is neither a NaN nor an infinity: times 0.0 it is then a zero, and else a NaN.
-pub fn is_finite(x: f64) -> bool
-    ensures { λ r. ⌜ r ≡ isFinite x ⌝ }
-{
-    if x * 0.0 != 0.0 {
-        return false;
-    }
-    true
 }
 
 // Whether no cell is a NaN or an infinity.

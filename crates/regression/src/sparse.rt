@@ -24,14 +24,14 @@ use crate::block::add_four_rows;
 use crate::block::add_one_row;
 use crate::block::run_from;
 
-// Whether no cell is a NaN or an infinity: times 0.0 such a cell is a NaN, and any other a zero.
+// Whether no cell is a NaN or an infinity.
 pub(crate) fn all_finite(cells: &[f64]) -> bool
     ensures { λ r. ⌜ r ≡ allFinite (now (cells .entry)) ⌝ }
 {
     let mut finite = true;
     let mut k = 0usize;
     while k < cells.len() {
-        if cells[k] * 0.0 != 0.0 {
+        if !float::is_finite64(cells[k]) {
             finite = false;
         }
         k += 1;

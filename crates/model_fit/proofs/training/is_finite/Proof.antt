@@ -21,17 +21,17 @@ tested s e =
 enum-told : tie.Need-enum-told
 enum-told c = search needs
 
-is-finite-requires : tie.Need-is-finite-requires
-is-finite-requires c κs = search needs
+is-finite64-requires : tie.Need-is-finite64-requires
+is-finite64-requires c κs = search needs
 
 returns : tie.Need-returns
 returns c =
     let s = c .before .before .before .before .before .before .before in
-    let f : isFinite (s .args .log) ≡ false = sym (c .before .is-finite .ensures) ∙ not-true _ (c .if1 .taken) in
+    let f : isFinite (s .args .log) ≡ false = sym (c .before .is-finite64 .ensures) ∙ not-true _ (c .if1 .taken) in
     rw f at (tested s (c .before .before .enum-told .given .1))
 
-is-finite-requires-2 : tie.Need-is-finite-requires-2
-is-finite-requires-2 c κs = search needs
+is-finite64-requires-2 : tie.Need-is-finite64-requires-2
+is-finite64-requires-2 c κs = search needs
 
 enum-told-2 : tie.Need-enum-told-2
 enum-told-2 c = search needs
@@ -43,8 +43,8 @@ returns-2 : tie.Need-returns-2
 returns-2 c =
     let s = c .before .before .before .before .before .before .before .before in
     let e = c .before in
-    let f : isFinite (s .args .log) ≡ true = sym (e .before .is-finite .ensures) ∙ not-false _ (e .if1 .left) in
-    c .is-finite2 .ensures ∙ rw f at (tested s (e .before .before .enum-told .given .1))
+    let f : isFinite (s .args .log) ≡ true = sym (e .before .is-finite64 .ensures) ∙ not-false _ (e .if1 .left) in
+    c .is-finite642 .ensures ∙ rw f at (tested s (e .before .before .enum-told .given .1))
 
 returns-3 : tie.Need-returns-3
 returns-3 c = search needs
@@ -54,9 +54,9 @@ is-finite-spec =
     tie.close
     (tie.spec
     enum-told
-    is-finite-requires
+    is-finite64-requires
     returns
-    is-finite-requires-2
+    is-finite64-requires-2
     enum-told-2
     all-finite-requires
     returns-2

@@ -2,16 +2,15 @@
 -- and those from k on are.
 use mathlib.Core.Path.{_≡_, refl, sym, ap, _∙_}
 use mathlib.Core.Logic.{⊎-elim}
-use mathlib.Core.Bool.{Bool, true, false, _&&_}
+use mathlib.Core.Bool.{Bool, _&&_, and-true, and-false}
 use Prim.Native.Nat.{_+_, _-_, _≤_}
 use native.Mathlib.Numerals.{add-one}
 use native.Mathlib.Omega.{arith}
 use lib.ListN.{length, getD, drop, drop-of-length-le}
-use lib.Ieee.{Float, nan, ofBits}
+use lib.Ieee.{Float, nan}
 use denote.Ref.{now}
 use borrow.Author.Tests.{not-true, not-false}
 use Rattle.float.specs.Value.{isFinite}
-use Rattle.float.proofs.Zeros.{is-not-finite}
 use Rattle.status.specs.Checks.{every}
 use Rattle.status.proofs.Laws.{every-step}
 use Rattle.regression.specs.Sparse.{allFinite}
@@ -26,22 +25,17 @@ Inv-loop cells finite₀ k₀ finite k =
 abbrev μ-loop : tie.MeasureT-loop
 μ-loop cells finite₀ k₀ finite k = length cells - k
 
-and-false : (a : Bool) → a && false ≡ false
-and-false true = refl
-and-false false = refl
-
-and-true : (a : Bool) → a && true ≡ a
-and-true true = refl
-and-true false = refl
-
 loop-holds : tie.Need-loop-holds Inv-loop μ-loop
 loop-holds c = (search needs, refl)
 
-mul-if1 : tie.Need-mul-if1 Inv-loop μ-loop
-mul-if1 c = search needs
+mul-is-finite64 : tie.Need-mul-is-finite64 Inv-loop μ-loop
+mul-is-finite64 c = search needs
 
-shared-slice-read-if1 : tie.Need-shared-slice-read-if1 Inv-loop μ-loop
-shared-slice-read-if1 c = search needs
+shared-slice-read-is-finite64 : tie.Need-shared-slice-read-is-finite64 Inv-loop μ-loop
+shared-slice-read-is-finite64 c = search needs
+
+is-finite64-requires : tie.Need-is-finite64-requires Inv-loop μ-loop
+is-finite64-requires c κs = search needs
 
 add-k : tie.Need-add-k Inv-loop μ-loop
 add-k c = search needs
@@ -50,10 +44,10 @@ loop-less : tie.Need-loop-less Inv-loop μ-loop
 loop-less c = search needs
 
 loop-again : tie.Need-loop-again Inv-loop μ-loop
-unfolding ofBits
 loop-again c =
-    let l = c .before .before .before .loop in
-    let cells = now (c .before .before .before .before .args .cells) in
+    let f = c .before .is-finite64 in
+    let l = c .before .before .before .before .loop in
+    let cells = now (c .before .before .before .before .before .before .args .cells) in
     let x : Float = getD cells (l .k) nan in
     let later : Bool = every isFinite (drop (l .k + 1) cells) in
     let step : allFinite cells ≡ l .finite && (isFinite x && later) =
@@ -61,8 +55,8 @@ loop-again c =
       omega arith,
       ⊎-elim
           (λ w.
-          rw (w .1) (step ∙ rw (not-true (isFinite x) (sym (is-not-finite x) ∙ w .0 .taken)) (and-false (l .finite))))
-          (λ w. rw (w .1) (step ∙ rw (not-false (isFinite x) (sym (is-not-finite x) ∙ w .0 .left))))
+          rw (w .1) (step ∙ rw (sym (f .ensures) ∙ not-true (f .result) (w .0 .taken)) (and-false (l .finite))))
+          (λ w. rw (w .1) (step ∙ rw (sym (f .ensures) ∙ not-false (f .result) (w .0 .left))))
           (c .if1 .came),
     )
 
@@ -70,7 +64,7 @@ returns : tie.Need-returns Inv-loop μ-loop
 unfolding every
 returns c =
     let l = c .before .loop in
-    let cells = now (c .before .before .args .cells) in
+    let cells = now (c .before .before .before .args .cells) in
     sym (l .inv .1 ∙ rw (drop-of-length-le cells {i = l .k} (omega arith)) (and-true (l .finite)))
 
 pub all-finite-spec : {M : Type 1} → statement M
@@ -80,8 +74,9 @@ all-finite-spec =
     Inv-loop
     μ-loop
     loop-holds
-    mul-if1
-    shared-slice-read-if1
+    mul-is-finite64
+    shared-slice-read-is-finite64
+    is-finite64-requires
     add-k
     loop-less
     loop-again
