@@ -16,7 +16,7 @@ pub const BYTES_MAX: usize = 65536;
 const U32_MAX: u32 = 4294967295;
 
 // A row as the text has it: q and rt are the patterns of two f32.
-#[derive(Drop)]
+#[derive(Clone, Copy)]
 pub struct TextRow {
     pub file: u32,
     pub peptide: u32,
@@ -26,7 +26,7 @@ pub struct TextRow {
 }
 
 // A row, and the place after it.
-#[derive(Drop)]
+#[derive(Clone, Copy)]
 pub enum RowRead {
     Row(TextRow, usize),
     Malformed,
@@ -80,7 +80,7 @@ pub fn read_row(input: &[u8], at: usize) -> RowRead
 }
 
 // The two lines before the rows, and the place after them.
-#[derive(Drop)]
+#[derive(Clone, Copy)]
 pub enum HeadRead {
     Head {
         files: u32,
@@ -164,7 +164,7 @@ fn store_row(
 }
 
 // How many rows there are.
-#[derive(Drop)]
+#[derive(Clone, Copy)]
 pub enum RowsRead {
     Rows(usize),
     Malformed,
@@ -198,7 +198,7 @@ fn read_rows(
 }
 
 // What a text says, without its rows.
-#[derive(Drop)]
+#[derive(Clone, Copy)]
 pub enum InputRead {
     Read {
         files: u32,

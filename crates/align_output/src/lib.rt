@@ -12,7 +12,7 @@ ghost use Rattle.align_output.specs.Output.{
 };
 
 // What is printed of a file's record.
-#[derive(Drop)]
+#[derive(Clone, Copy)]
 pub struct Printed {
     pub max_rt: f32,
     pub slope: f32,

@@ -24,7 +24,7 @@ const CELLS_MAX: usize = 1024;
 const TEXT_MAX: usize = 8192;
 
 // What a call did.
-#[derive(Drop)]
+#[derive(Clone, Copy)]
 pub enum TextAnswer {
     // The text is accepted, and the answer's bytes stand at the start of the output: so many.
     Accepted(usize),
@@ -34,7 +34,7 @@ pub enum TextAnswer {
 }
 
 // An answer that stands at the start of a buffer: the text's status, and the answer's length.
-#[derive(Drop)]
+#[derive(Clone, Copy)]
 struct Buffered {
     status: u8,
     length: usize,

@@ -6,7 +6,7 @@ ghost use Rattle.matrix.specs.Cells.{step_of};
 use matrix::{Col, ColStep};
 
 // A matrix of rows × cols cells, a column of it, and the row that is read next.
-#[derive(Drop)]
+#[derive(Clone, Copy)]
 pub struct Column<'a> {
     pub cells: &'a [f64],
     pub rows: u32,

@@ -10,7 +10,7 @@ mod residues;
 mod retention_model;
 
 // Which columns a row has.
-#[derive(Drop)]
+#[derive(Clone, Copy)]
 pub enum Model {
     Retention,
     Mobility,

@@ -98,6 +98,8 @@ module _ (f : Format) (s : Bool) (q k : ℕ) (h : 1 ≤ q) where
       sym v.1 ∙ ap (λ (x : ℕ). x * 2 ^ low f) (zero-mul (up e)) ∙ zero-mul (2 ^ low f) in
       absurd (lt_irrefl 0 (subst (λ (x : ℕ). 0 < x) none big))
   nonzero (fin t (suc m) e) v = refl
+  nonzero nan v = elim v [ ]
+  nonzero (inf _) v = elim v [ ]
 
   units_something : not_minus_zero (units f s q k) ≡ true
   unfolding units not_minus_zero
@@ -252,6 +254,8 @@ clear (suc m) e = refl
 positive_value : (x : Float) (a c : ℕ) → HasValue x false a c → not_minus_zero x ≡ true
 positive_value (fin true m e) a c v = absurd (true≢false v.0)
 positive_value (fin false m e) a c v = clear m e
+positive_value nan a c v = elim v [ ]
+positive_value (inf _) a c v = elim v [ ]
 
 units_clear : (f : Format) (q i : ℕ) → not_minus_zero (units f false q i) ≡ true
 unfolding units not_minus_zero

@@ -6,7 +6,7 @@ ghost use Rattle.std.specs.Float.Ieee.Nearest.{closest};
 ghost use Rattle.float.specs.Convert.{narrowed, is_exact, ceiling};
 
 // An f64 as an f32, and whether nothing was lost: the two are equal, which a NaN never is.
-#[derive(Drop)]
+#[derive(Clone, Copy)]
 pub struct Narrowed {
     pub value: f32,
     pub exact: bool,

@@ -47,7 +47,7 @@ pub fn write_hex(v: u64, out: &mut [u8])
 }
 
 // What a text of digits is.
-#[derive(Drop)]
+#[derive(Clone, Copy)]
 pub enum HexRead {
     Value(u64),
     Malformed,

@@ -5,7 +5,7 @@ mod checks; // the checks, in document 01's order
 
 // What a call of `solve` answers: the ridge that solved the system, that none did, or that the call is refused with
 // this status.
-#[derive(Drop)]
+#[derive(Clone, Copy)]
 pub enum SolveAnswer {
     Solved(f64),
     Unsolved,

@@ -6,7 +6,7 @@ ghost use Rattle.mass.specs.Mass.{column_of, is_letter, residue_at};
 pub const VALID_AA: [u8; 22] = *b"ACDEFGHIKLMNPQRSTVWYUO";
 
 // What stands at a column.
-#[derive(Drop)]
+#[derive(Clone, Copy)]
 pub enum Residue {
     Letter(u8),
     Outside,

@@ -7,10 +7,10 @@ ghost use Rattle.matrix.specs.Rows.{place_of, row_at, rows_of, flat, swapped, Tw
 ghost use Rattle.matrix.specs.Cells.{cell_of, step_of};
 
 // A peptide's number, and a file's: a row and a column of the matrix of times.
-#[derive(Drop)]
+#[derive(Clone, Copy)]
 pub struct PeptideIx(pub u32);
 
-#[derive(Drop)]
+#[derive(Clone, Copy)]
 pub struct FileIx(pub u32);
 
 // The place of a peptide's cell for a file, in a matrix with a column for each file. For the crates above: within the
@@ -42,7 +42,7 @@ pub fn row_slice(cells: &[f64], row: u32, cols: u32) -> &[f64]
 }
 
 // What a checked read finds.
-#[derive(Drop)]
+#[derive(Clone, Copy)]
 pub enum Cell {
     Value(f64),
     Outside,
@@ -72,14 +72,14 @@ pub fn get(cells: &[f64], rows: u32, cols: u32, row: u32, col: u32) -> Cell
 }
 
 // A cursor that walks down a column (Rust's Iter over Col): the row that it reads next, and the column.
-#[derive(Drop)]
+#[derive(Clone, Copy)]
 pub struct Col {
     pub row: u32,
     pub col: u32,
 }
 
 // What a step of the cursor gives: the cell and the cursor one row further down, or the column's end.
-#[derive(Drop)]
+#[derive(Clone, Copy)]
 pub enum ColStep {
     Value(f64, Col),
     Done,

@@ -27,7 +27,7 @@ use matrix::PeptideIx;
 use regression::{FirstRidge, FitOutcome, Sums};
 
 // A fit without its squared errors: the ridge that solves it with the sums of the targets, or why none does.
-#[derive(Drop)]
+#[derive(Clone, Copy)]
 pub enum Solving {
     Solved { ridge: f64, sums: Sums },
     NoTrainingRows,

@@ -8,7 +8,7 @@ pub mod retention_model; // fit, predict, predict_accepted
 pub mod mobility_model; // fit, predict, predict_accepted
 
 // What a fit answers: its outcome, or the status of the check that refused the call.
-#[derive(Drop)]
+#[derive(Clone, Copy)]
 pub enum FitAnswer {
     Fitted(FitOutcome),
     Refused(u8),
@@ -16,14 +16,14 @@ pub enum FitAnswer {
 
 // The outcome of a prediction's fit, and how many rows' predictions lost something as they were narrowed to an f32, a
 // NaN among them: 0 where the fit is not solved.
-#[derive(Drop)]
+#[derive(Clone, Copy)]
 pub struct PredictOutcome {
     pub fit: FitOutcome,
     pub inexact: u32,
 }
 
 // What a prediction answers, as a fit does.
-#[derive(Drop)]
+#[derive(Clone, Copy)]
 pub enum PredictAnswer {
     Predicted(PredictOutcome),
     Refused(u8),

@@ -33,7 +33,7 @@ use regression::FitOutcome;
 
 // What a pass over the rows finds besides their predictions: how many of them narrowing changed, and the sum of the
 // squared errors of the training rows.
-#[derive(Drop)]
+#[derive(Clone, Copy)]
 struct Written {
     inexact: u32,
     sse: f64,

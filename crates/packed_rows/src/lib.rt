@@ -17,7 +17,7 @@ ghost use Rattle.packed_rows.specs.Added.{
 };
 
 // Four rows: their bases, and what is multiplied with the columns' values.
-#[derive(Drop)]
+#[derive(Clone, Copy)]
 struct Four {
     a: usize,
     b: usize,

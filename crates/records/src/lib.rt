@@ -6,14 +6,14 @@ use matrix::FileIx;
 pub use retention_alignment::Alignment;
 
 // What a lookup finds: the file's record, or the status for a file that has none.
-#[derive(Drop)]
+#[derive(Clone, Copy)]
 pub enum Found {
     At(Alignment),
     Refused(u8),
 }
 
 // A row's aligned time, or the status for a file that has no record.
-#[derive(Drop)]
+#[derive(Clone, Copy)]
 pub enum AlignedTime {
     At(f32),
     Refused(u8),

@@ -41,7 +41,7 @@ mod sparse; // a sample whose zeros are skipped
 
 // What a fit answers: the ridge that solved the normal equations with r2 and the number of training
 // rows, that there is no training row, or that no ridge solves them.
-#[derive(Drop)]
+#[derive(Clone, Copy)]
 pub enum FitOutcome {
     Solved { ridge: f64, r2: f64, n: u32 },
     NoTrainingRows,
@@ -49,7 +49,7 @@ pub enum FitOutcome {
 }
 
 // The first ridge of the series that solves a system, if one does.
-#[derive(Drop)]
+#[derive(Clone, Copy)]
 pub enum FirstRidge {
     Solves(f64),
     None,
@@ -209,7 +209,7 @@ pub fn add_row_sparse(
 }
 
 // The number of samples, the sum of their targets and of the targets' squares.
-#[derive(Drop)]
+#[derive(Clone, Copy)]
 pub struct Sums {
     pub n: u32,
     pub sum_y: f64,

@@ -28,14 +28,14 @@ use rt_matrix::FileRoom;
 use status::MAX_FILES;
 
 // What a call answers; the refused case carries the status.
-#[derive(Drop)]
+#[derive(Clone, Copy)]
 pub enum AlignAnswer {
     Accepted,
     Refused(u8),
 }
 
 // The lengths of the slices that a call writes.
-#[derive(Drop)]
+#[derive(Clone, Copy)]
 pub struct Room {
     pub workspace: usize,
     pub records: FileRoom,

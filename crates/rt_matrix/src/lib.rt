@@ -21,7 +21,7 @@ const FEW_FILES: usize = 256;
 // A file's record: its longest time, its line, how many kept peptides carry the line, and whether each of the three
 // f32 equals the f64 that it was narrowed from. Hosts pass lists of it, hence the layout of C.
 #[repr(C)]
-#[derive(Drop)]
+#[derive(Clone, Copy)]
 pub struct Alignment {
     pub max_rt: f32,
     pub slope: f32,
@@ -33,7 +33,7 @@ pub struct Alignment {
 }
 
 // The lengths of the columns that hold the files' records.
-#[derive(Drop)]
+#[derive(Clone, Copy)]
 pub struct FileRoom {
     pub max_rt: usize,
     pub slope: usize,

@@ -17,7 +17,7 @@ ghost use Rattle.rt_matrix.specs.Cells.{
 use crate::mean;
 
 // A file's points: how many, and the sums of x times y, of x and of y.
-#[derive(Drop)]
+#[derive(Clone, Copy)]
 pub(crate) struct Sums {
     pub(crate) len: u32,
     pub(crate) dot: f64,

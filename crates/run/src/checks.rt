@@ -7,7 +7,7 @@ use embedding::Model;
 use rt_matrix::FileRoom;
 
 // The lengths of a model's outputs.
-#[derive(Drop)]
+#[derive(Clone, Copy)]
 pub struct ModelRoom {
     pub beta: usize,
     pub predicted: usize,
@@ -15,7 +15,7 @@ pub struct ModelRoom {
 }
 
 // The lengths of the slices that a run writes.
-#[derive(Drop)]
+#[derive(Clone, Copy)]
 pub struct Room {
     pub workspace: usize,
     pub records: FileRoom,

@@ -14,7 +14,7 @@ use rt_matrix::FileRoom;
 mod checks; // the checks, in document 01's order
 
 // What a run answers: the outcome of each model's prediction, or the status of the check that refused the call.
-#[derive(Drop)]
+#[derive(Clone, Copy)]
 pub enum RunAnswer {
     Ran {
         retention: PredictOutcome,

@@ -4,7 +4,7 @@ ghost use Rattle.text.specs.Decimal.{read_from, read_decimal, read_signed};
 ghost use Rattle.text.specs.Answer.{decimal_read, signed_read};
 
 // What a text of digits is.
-#[derive(Drop)]
+#[derive(Clone, Copy)]
 pub enum DecimalRead {
     Value(u32),
     Malformed,
@@ -49,7 +49,7 @@ fn digits_up_to(s: &[u8], max: u32) -> DecimalRead
 }
 
 // What a text of digits, perhaps after a `-`, is.
-#[derive(Drop)]
+#[derive(Clone, Copy)]
 pub enum SignedRead {
     Value(i32),
     Malformed,

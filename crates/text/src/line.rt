@@ -7,7 +7,7 @@ use crate::decimal::{DecimalRead, SignedRead, read_decimal, read_signed};
 use float::HexRead;
 
 // Where a line ends.
-#[derive(Drop)]
+#[derive(Clone, Copy)]
 pub enum LineEnd {
     // The place of its LF.
     At(usize),
@@ -47,7 +47,7 @@ pub fn starts_with(s: &[u8], key: &[u8]) -> bool
 }
 
 // Where a line's value stands: `from` its first byte, `end` its LF.
-#[derive(Drop)]
+#[derive(Clone, Copy)]
 pub enum ValueAt {
     Found { from: usize, end: usize },
     Malformed,
@@ -70,7 +70,7 @@ pub fn find_value(text: &[u8], at: usize, key: &[u8]) -> ValueAt
 }
 
 // A line's number, and the place after the line.
-#[derive(Drop)]
+#[derive(Clone, Copy)]
 pub enum DecimalLine {
     Value { value: u32, next: usize },
     Malformed,
@@ -93,7 +93,7 @@ pub fn read_decimal_line(text: &[u8], at: usize, key: &[u8], max: u32) -> Decima
 }
 
 // A line's signed number, and the place after the line.
-#[derive(Drop)]
+#[derive(Clone, Copy)]
 pub enum SignedLine {
     Value { value: i32, next: usize },
     Malformed,
@@ -116,7 +116,7 @@ pub fn read_signed_line(text: &[u8], at: usize, key: &[u8]) -> SignedLine
 }
 
 // A line's number of hex digits, and the place after the line.
-#[derive(Drop)]
+#[derive(Clone, Copy)]
 pub enum HexLine {
     Value { value: u64, next: usize },
     Malformed,

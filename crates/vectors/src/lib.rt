@@ -9,7 +9,7 @@ use float::HexRead;
 use libc::{STDIN_FILENO, STDOUT_FILENO};
 
 // A case of a leaf function: which function, and its arguments.
-#[derive(Drop)]
+#[derive(Clone, Copy)]
 pub struct Record {
     pub op: u64,
     pub a: u64,
@@ -19,13 +19,13 @@ pub struct Record {
 
 // What the next line is. End is also the answer for a line that is malformed: the program then
 // stops, and what it wrote is too short.
-#[derive(Drop)]
+#[derive(Clone, Copy)]
 pub enum Next {
     Case(Record),
     End,
 }
 
-#[derive(Drop)]
+#[derive(Clone, Copy)]
 pub enum Token {
     Value(u64),
     End,

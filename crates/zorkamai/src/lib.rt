@@ -30,7 +30,7 @@ use records::Alignment;
 // The answer of the solver, of a fit or of a prediction: its status and, if that is 0, the ridge, the fit's r2 and the
 // number of training rows, and of how many rows narrowing changed the prediction. What a call does not give is 0.
 #[repr(C)]
-#[derive(Drop)]
+#[derive(Clone, Copy)]
 pub struct Answer {
     pub status: u8,
     pub ridge: f64,
@@ -41,7 +41,7 @@ pub struct Answer {
 
 // The answer of a run: its status, and the answer of each model's prediction.
 #[repr(C)]
-#[derive(Drop)]
+#[derive(Clone, Copy)]
 pub struct RunReport {
     pub status: u8,
     pub retention: Answer,
@@ -50,7 +50,7 @@ pub struct RunReport {
 
 // The answer of a lookup: its status and, if that is 0, the record.
 #[repr(C)]
-#[derive(Drop)]
+#[derive(Clone, Copy)]
 pub struct RecordAnswer {
     pub status: u8,
     pub max_rt: f32,
@@ -64,7 +64,7 @@ pub struct RecordAnswer {
 
 // A row's aligned time, if the status is 0.
 #[repr(C)]
-#[derive(Drop)]
+#[derive(Clone, Copy)]
 pub struct TimeAnswer {
     pub status: u8,
     pub aligned: f32,
@@ -72,7 +72,7 @@ pub struct TimeAnswer {
 
 // A cell of a column, where there is one, and the row below it.
 #[repr(C)]
-#[derive(Drop)]
+#[derive(Clone, Copy)]
 pub struct CellAnswer {
     pub found: bool,
     pub value: f64,

@@ -1,0 +1,12 @@
+-- `align_input::store_i32` meets its contract: past the end `set` changes nothing.
+use mathlib.Core.Path.{sym, ap}
+use lib.ListN.{set}
+use lib.Seq.{set_out}
+use mir.Facts.{to_z-of_z}
+use Rattle.align_input.proofs.store_i32.Goals as goal
+
+pub returns-then-i-column : goal.returns-then-i-column
+returns-then-i-column c = ap (set c.args.column.now c.args.i) (to_z-of_z c.ranges.x)
+
+pub returns-else-i-column : goal.returns-else-i-column
+returns-else-i-column c = sym (set_out _ _ _ c.if-i-column.false)

@@ -1,0 +1,57 @@
+-- `embedding::list` meets its contract: each model's own.
+use mathlib.Core.Path.{◌≡◌, subst}
+use mathlib.Core.List.{List}
+use Prim.Native.Nat.{ℕ, ◌≤◌}
+use native.Mathlib.Omega.{arith}
+use lib.Ieee.{Float}
+use lib.ListN.{length, take}
+use Rattle.matrix.specs.Nonzero.{Nonzeros}
+use Rattle.embedding.specs.declared.Model.{Model}
+use Rattle.embedding.specs.declared.Model.TheVariants.{Retention, Mobility}
+use Rattle.embedding.specs.Design.{order_of, design}
+use Rattle.embedding.specs.Listing.{Appended}
+use Rattle.embedding.proofs.Totals.{totals}
+use Rattle.embedding.proofs.Appending.{block_listed}
+use Rattle.embedding.proofs.list.Goals as goal
+
+-- what a model's own function listed is the design row of that model
+designed : {r : ℕ} {p₀ p₁ : List ℕ} {v₀ v₁ : List Float} (m k : Model) → m ≡ k → (letters : List ℕ) (log mass : Float)
+    (charge : ℕ)
+    → Appended 0 (design k letters log mass charge) 0 r p₀ p₁ v₀ v₁
+    → (r ≤ order_of m) × Nonzeros 0 (design m letters log mass charge) (take r p₁) (take r v₁)
+designed m k e letters log mass charge a =
+    rw e (omega (arith, a.few, (totals k letters log mass charge).columns), block_listed a)
+
+pub list-requires : goal.list-requires
+list-requires c =
+    let e = c.enum_told-1.given.1 in record {
+      letters_len_bound = c.requires.letters_len_bound;
+      in_bounds = (
+        subst (λ (m : Model). order_of m ≤ length c.args.places-1.now) e c.requires.model_in_bounds.0,
+        subst (λ (m : Model). order_of m ≤ length c.args.values-1.now) e c.requires.model_in_bounds.1,
+      );
+    }
+
+pub list-requires-in-Mobility : goal.list-requires-in-Mobility
+list-requires-in-Mobility c =
+    let e = c.enum_told-in-Mobility-1.given.1 in record {
+      letters_len_bound = c.requires.letters_len_bound;
+      in_bounds = (
+        subst (λ (m : Model). order_of m ≤ length c.args.places-1.now) e c.requires.model_in_bounds.0,
+        subst (λ (m : Model). order_of m ≤ length c.args.values-1.now) e c.requires.model_in_bounds.1,
+      );
+    }
+
+pub returns-in-Retention : goal.returns-in-Retention
+unfolding design
+returns-in-Retention c =
+    let a = c.args in
+    designed a.model Retention c.enum_told-1.given.1
+    a.letters.now a.log a.mass a.charge c.list.ensures
+
+pub returns-in-Mobility : goal.returns-in-Mobility
+unfolding design
+returns-in-Mobility c =
+    let a = c.args in
+    designed a.model Mobility c.enum_told-in-Mobility-1.given.1
+    a.letters.now a.log a.mass a.charge c.list-in-Mobility.ensures

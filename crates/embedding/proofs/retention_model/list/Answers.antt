@@ -1,0 +1,14 @@
+-- `embedding::retention_model::list` meets its contract: the counts, and behind them the rest.
+use native.Mathlib.Omega.{arith}
+use Rattle.embedding.specs.Design.{everywhere}
+use Rattle.embedding.proofs.Rows.{length_block, retention_whole}
+use Rattle.embedding.proofs.Appending.{both_listed, listed_as, all_counted}
+use Rattle.embedding.proofs.retention_model.list.Goals as goal
+
+pub returns : goal.returns
+returns c =
+    let l = c.args.letters.now in
+    listed_as (retention_whole l c.args.log)
+    (both_listed (listed_as (all_counted l c.count-seen.ensures.counts_after) c.list_Counts.ensures)
+    (omega (arith, length_block everywhere l))
+    c.list_rest.ensures)

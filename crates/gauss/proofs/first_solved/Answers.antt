@@ -1,0 +1,127 @@
+-- `gauss::first_solved` meets its contract. The loop's invariant: what the ridges from eps on solve is what all of
+-- them solve, the ridges from eps on are within the series, and the output is as it was. The measure is how many
+-- ridges are left.
+use mathlib.Core.Path.{◌≡◌, refl, sym, ap, ◌∙◌}
+use mathlib.Core.List.{List}
+use mathlib.Core.Bool.{Bool}
+use Prim.Native.Nat.{ℕ, ◌+◌, ◌*◌, ◌≤◌}
+use native.Mathlib.Nat.{le-add_right}
+use native.Mathlib.Omega.{arith}
+use lib.ListN.{length, replicate}
+use lib.Ieee.{Float, of_bits, round}
+use Rattle.matrix.specs.Rows.{rows_of}
+use Rattle.float.specs.Number.{zero64}
+use Rattle.elimination.specs.Rows.{Shape, augmented}
+use Rattle.elimination.specs.Elimination.{Tried, eliminate, left_solved}
+use Rattle.elimination.specs.Ridge.{Solution, solved, unsolved, right_side, written}
+use Rattle.gauss.specs.Solve.{solution_of, answer_of}
+use Rattle.elimination.proofs.Ridges.{within_first, within_next, fewer, solves_here, solves_later, none_solves}
+use Rattle.status.specs.Limits.{max_order, max_columns}
+use Rattle.gauss.proofs.first_solved.Goals as goal
+
+shape : (n c : ℕ) (cells : List Float) → n ≤ max_order → c ≤ max_columns → length cells ≡ n * (n + c)
+    → Shape n (n + c) cells
+shape n c cells h k e = record { order = h; wide = omega arith; left = le-add_right n c; count = e }
+
+-- a try on the joined rows: what it leaves, and what it answers
+same_rows : (n c : ℕ) (eps : Float) (rows : List (List Float)) (joined after : List Float) (r : Bool)
+    → rows_of (n + c) n joined ≡ rows
+    → Tried n c eps joined after r
+    → (rows_of (n + c) n after ≡ eliminate n eps rows) × (r ≡ left_solved n (eliminate n eps rows))
+same_rows n c eps rows joined after r e t =
+    (t.rows ∙ ap (eliminate n eps) e, t.solved ∙ ap (λ (z : List (List Float)). left_solved n (eliminate n eps z)) e)
+
+pub loop-eps-init : goal.loop-eps-init
+unfolding solution_of of_bits round
+loop-eps-init c = (within_first, refl, refl, refl)
+
+pub augment-requires : goal.augment-requires
+augment-requires c =
+    (c.loop-eps.invariant.2 ∙ c.requires.cell_count, c.requires.left_count, c.requires.right_count)
+
+pub solve_inner-requires : goal.solve_inner-requires
+solve_inner-requires c =
+    shape c.args.n c.args.c _ c.requires.order c.requires.columns
+    (c.augment.auto.cells ∙ c.loop-eps.invariant.2 ∙ c.requires.cell_count)
+
+pub right_side-requires : goal.right_side-requires
+right_side-requires c =
+    (ap length c.loop-eps.invariant.1 ∙ c.requires.solution_count, c.solve_inner.auto.cells ∙ c.augment.auto.cells ∙ c.loop-eps.invariant.2 ∙ c.requires.cell_count)
+
+pub shape_of-cells-then-solve_inner : goal.shape_of-cells-then-solve_inner
+shape_of-cells-then-solve_inner c =
+    c.zeros.auto.cells
+    ∙ c.solve_inner.auto.cells
+    ∙ c.augment.auto.cells
+    ∙ c.loop-eps.invariant.2
+
+pub shape_of-solution-then-solve_inner : goal.shape_of-solution-then-solve_inner
+shape_of-solution-then-solve_inner c =
+    c.right_side.auto.solution
+    ∙ ap length
+    c.loop-eps.invariant.1
+
+pub returns-then-solve_inner : goal.returns-then-solve_inner
+unfolding of_bits
+returns-then-solve_inner c =
+    let t =
+    c.solve_inner in
+    let rows =
+    same_rows c.args.n c.args.c c.loop-eps.eps
+    (augmented (rows_of c.args.n c.args.n c.args.left.now) (rows_of c.args.c c.args.n c.args.right.now))
+    c.augment.new.cells
+    t.last.0 t.result
+    c.augment.ensures
+    t.ensures in
+    let is : solved c.loop-eps.eps (right_side c.args.n (eliminate c.args.n c.loop-eps.eps (augmented (rows_of c.args.n c.args.n c.args.left.now) (rows_of c.args.c c.args.n c.args.right.now)))) ≡ solution_of c.args.n c.args.c c.args.left.now c.args.right.now =
+    sym
+    (solves_here c.args.n (augmented (rows_of c.args.n c.args.n c.args.left.now) (rows_of c.args.c c.args.n c.args.right.now)) c.loop-eps.eps c.loop-eps.inv.0 c.loop-eps-test.true (sym rows.1 ∙ c.if-solve_inner.true))
+    ∙ c.loop-eps.inv.3 in
+    record {
+      answer = ap (answer_of 0) is;
+      cells =
+          c.zeros.ensures
+          ∙ ap (λ (k : ℕ). replicate k zero64)
+          (t.kept.0 ∙ c.augment.auto.cells ∙ c.loop-eps.inv.2);
+      solution =
+          c.right_side.ensures
+          ∙ ap (right_side c.args.n) rows.0
+          ∙ ap (λ (z : Solution). written z c.args.solution-1.now) is;
+    }
+
+pub loop-eps-smaller : goal.loop-eps-smaller
+unfolding of_bits
+loop-eps-smaller c =
+    fewer c.loop-eps.eps c.loop-eps.invariant.0
+    c.loop-eps-test.true
+
+pub loop-eps-preserved : goal.loop-eps-preserved
+unfolding of_bits
+loop-eps-preserved c =
+    let t = c.solve_inner in
+    let rows = same_rows c.args.n c.args.c c.loop-eps.eps (augmented (rows_of c.args.n c.args.n c.args.left.now) (rows_of c.args.c c.args.n c.args.right.now)) c.augment.new.cells t.new.0 t.result c.augment.ensures t.ensures in (
+      within_next c.loop-eps.eps c.loop-eps.invariant.0
+          c.loop-eps-test.true,
+      c.loop-eps.invariant.1,
+      t.auto.0 ∙ c.augment.auto.cells ∙ c.loop-eps.invariant.2,
+      sym (solves_later c.args.n (augmented (rows_of c.args.n c.args.n c.args.left.now) (rows_of c.args.c c.args.n c.args.right.now)) c.loop-eps.eps c.loop-eps.invariant.0 c.loop-eps-test.true (sym rows.1 ∙ c.if-solve_inner.false)) ∙ c.loop-eps.invariant.3,
+    )
+
+pub shape_of-cells : goal.shape_of-cells
+shape_of-cells c = c.zeros-2.auto.cells ∙ c.loop-eps.invariant.2
+
+pub shape_of-solution : goal.shape_of-solution
+shape_of-solution c = ap length c.loop-eps.invariant.1
+
+pub returns : goal.returns
+unfolding of_bits
+returns c =
+    let is : unsolved ≡ solution_of c.args.n c.args.c c.args.left.now c.args.right.now =
+    sym
+    (none_solves c.args.n (augmented (rows_of c.args.n c.args.n c.args.left.now) (rows_of c.args.c c.args.n c.args.right.now)) c.loop-eps.eps c.loop-eps-test.false)
+    ∙ c.loop-eps.invariant.3 in
+    record {
+      answer = ap (answer_of 0) is;
+      cells = c.zeros-2.ensures ∙ ap (λ (k : ℕ). replicate k zero64) c.loop-eps.invariant.2;
+      solution = c.loop-eps.invariant.1 ∙ ap (λ (z : Solution). written z c.args.solution-1.now) is;
+    }

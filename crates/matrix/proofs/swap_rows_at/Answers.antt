@@ -1,0 +1,68 @@
+-- `matrix::swap_rows_at` meets its contract. The loop's invariant: whichever rows i and j start at a and b, the rows
+-- are the old ones with the first k cells of rows i and j exchanged.
+use mathlib.Core.Path.{◌≡◌, refl, sym, ap, ◌∙◌}
+use mathlib.Core.List.{List}
+use Prim.Native.Nat.{ℕ, ◌-◌}
+use native.Mathlib.Omega.{arith}
+use native.Mathlib.Numerals.{add-one}
+use borrow.Author.Rules.{rules}
+use lib.Ieee.{Float, nan}
+use lib.ListN.{length, length-set}
+use Rattle.matrix.specs.Rows.{rows_of, swapped, TwoRows}
+use Rattle.matrix.proofs.Laws.{Wide, row_end, length_rows_of, wide_rows_of, wide_get_d, is_flat}
+use Rattle.matrix.proofs.Exchange.{exchanged, exchanged_none, exchanged_all, swap_suc}
+use Rattle.matrix.proofs.swap_rows_at.Goals as goal
+
+pub loop-k-init : goal.loop-k-init
+loop-k-init c =
+    let t = c.requires in
+    let cols : ℕ = c.args.cols in (
+      search rules,
+      omega (arith, row_end cols t.rows t.i t.first.0, t.first.1, t.count),
+      omega (arith, row_end cols t.rows t.j t.second.0, t.second.1, t.count),
+      refl,
+      λ u. sym (exchanged_none u.i u.j (rows_of cols u.rows c.args.cells.now)),
+    )
+
+pub bounds-cells-b-in-loop-k : goal.bounds-cells-b-in-loop-k
+bounds-cells-b-in-loop-k c = simp length-set (omega arith)
+
+-- the rows as the function begins
+module _ (s : goal.Start invariant_loop decreases_loop)
+    (t : TwoRows s.args.cols s.args.a s.args.b (length s.args.cells.now)) where
+  abbrev old : List (List Float)
+  old = rows_of s.args.cols t.rows s.args.cells.now
+
+  many : length old ≡ t.rows
+  many = length_rows_of s.args.cols t.rows s.args.cells.now
+
+  wide : Wide s.args.cols old
+  wide = wide_rows_of s.args.cols t.rows s.args.cells.now (omega (arith, t.count))
+
+pub loop-k-preserved : goal.loop-k-preserved
+loop-k-preserved c =
+    let s = c.before in
+    let a = s.args in
+    let taken = c.loop-k-test.true in (
+      omega arith,
+      c.loop-k.invariant.1,
+      c.loop-k.invariant.2,
+      simp length-set c.loop-k.invariant.3,
+      λ t. rw add-one
+          (swap_suc a.cols t.rows c.loop-k.k t.i t.j a.a a.b c.loop-k.cells (old s t) nan
+          (c.loop-k.invariant.4 t) (wide s t) (many s t) t.first t.second taken),
+    )
+
+pub returns : goal.returns
+returns c t =
+    let s = c.before in
+    let cols : ℕ = s.args.cols in
+    let rows = old s t in
+    let n : length rows ≡ t.rows = many s t in
+    let k : c.loop-k.k ≡ cols = omega arith in
+    let exchanged_rows : rows_of cols t.rows c.loop-k.cells ≡ swapped t.i t.j rows =
+    c.loop-k.invariant.4 t
+    ∙ ap (λ (m : ℕ). exchanged m t.i t.j rows) k
+    ∙ exchanged_all cols t.i t.j rows (wide_get_d cols rows t.i (wide s t) (omega (arith, t.first.0)))
+    (wide_get_d cols rows t.j (wide s t) (omega (arith, t.second.0))) in
+    is_flat cols t.rows c.loop-k.cells (swapped t.i t.j rows) (c.loop-k.invariant.3 ∙ t.count) exchanged_rows

@@ -1,0 +1,14 @@
+-- `packed_rows::add_column` meets its contract: cell after cell.
+use mathlib.Core.Path.{ap, ◌∙◌}
+use Prim.Native.Nat.{◌+◌}
+use Rattle.packed_rows.specs.Added.{cell_added}
+use Rattle.packed_rows.proofs.add_column.Goals as goal
+
+pub returns : goal.returns
+returns c =
+    let a = c.args in
+    c.add_cell-4.ensures
+    ∙ ap (cell_added (a.four.d + a.k) a.four.z a.v)
+    (c.add_cell-3.ensures
+    ∙ ap (cell_added (a.four.c + a.k) a.four.y a.v)
+    (c.add_cell-2.ensures ∙ ap (cell_added (a.four.b + a.k) a.four.x a.v) c.add_cell.ensures))

@@ -1,0 +1,10 @@
+-- `peptide_check::length` is safe: a table that passes has each peptide below its number of peptides.
+use mathlib.Core.Path.{◌∙◌, sym}
+use Rattle.peptide.proofs.Laws.{has_peptide}
+use Rattle.peptide_check.proofs.length.Goals as goal
+
+pub sequence-requires : goal.sequence-requires
+sequence-requires c =
+    let a = c.args in
+    has_peptide a.letters.now a.offsets.now a.peptides a.p
+    (sym c.check_table.ensures ∙ c.if-check_table-ne-ACCEPTED.false) c.if-peptides-p.false

@@ -1,0 +1,16 @@
+-- `retention_alignment::check` meets its contract: each check's answer, and the first that fails.
+use mathlib.Core.Path.{◌∙◌}
+use Rattle.retention_alignment.specs.Call.{status_by}
+use Rattle.retention_alignment.proofs.check.Goals as goal
+
+pub returns : goal.returns
+unfolding status_by
+returns c =
+    c.first_failing.ensures
+    ∙ rw (
+      c.same_lengths-lengths.ensures,
+      c.limits-limits.ensures,
+      c.long_enough-long.ensures,
+      c.all_below-files_right.ensures,
+      c.all_below-peptides_right.ensures,
+    )

@@ -1,0 +1,54 @@
+-- `text::line::starts_with` meets its contract. The loop's invariant: s begins with key where the rest of s begins
+-- with the rest of key.
+use mathlib.Core.Path.{◌≡◌, refl, sym, ap, ap₂, ◌∙◌}
+use mathlib.Core.List.{List, ◌∷◌}
+use Prim.Native.Nat.{ℕ, ◌+◌, ◌-◌}
+use native.Mathlib.Omega.{arith}
+use lib.ListN.{drop, get_or, drop_of_length-le}
+use borrow.Author.Rules.{rules}
+use Rattle.text.specs.Line.{starts_with}
+use Rattle.text.proofs.Lists.{drop_next}
+use Rattle.text.proofs.Answers.{starts_short, starts_differ, starts_same}
+use Rattle.text.proofs.line.starts_with.Goals as goal
+
+module _ (c : goal.In-loop-i invariant_loop decreases_loop) where
+  abbrev s : List ℕ
+  s = c.args.s.now
+
+  abbrev key : List ℕ
+  key = c.args.key.now
+
+  abbrev i : ℕ
+  i = c.loop-i.i
+
+  turn : starts_with (get_or key i 0 ∷ drop (i + 1) key) (get_or s i 0 ∷ drop (i + 1) s) ≡ starts_with key s
+  turn =
+      ap₂ (λ (k l : List ℕ). starts_with k l) (sym (drop_next 0 key i c.loop-i-test.true))
+      (sym (drop_next 0 s i (omega arith)))
+      ∙ c.loop-i.invariant.1
+
+pub returns-then-s-key : goal.returns-then-s-key
+returns-then-s-key c = sym (starts_short _ _ c.if-s-key.true)
+
+pub loop-i-init : goal.loop-i-init
+loop-i-init c = (search rules, refl)
+
+pub bounds-s-i : goal.bounds-s-i
+bounds-s-i c = omega arith
+
+pub returns-then-s-i : goal.returns-then-s-i
+returns-then-s-i c =
+    let l = c.before.before.before in
+    sym (starts_differ (get_or (key l) (i l) 0) (get_or (s l) (i l) 0) _ _ c.if-s-i.true) ∙ turn l
+
+pub loop-i-preserved : goal.loop-i-preserved
+loop-i-preserved c =
+    let l = c.before.before.before in
+    (omega arith, sym (starts_same (get_or (key l) (i l) 0) (get_or (s l) (i l) 0) _ _ c.if-s-i.false) ∙ turn l)
+
+pub returns : goal.returns
+unfolding starts_with
+returns c =
+    ap (λ (k : List ℕ). starts_with k (drop c.loop-i.i c.args.s.now))
+    (sym (drop_of_length-le c.args.key.now c.loop-i-test.false))
+    ∙ c.loop-i.invariant.1
