@@ -1,4 +1,6 @@
 // Reads a text from standard input and writes the alignment's answer to standard output.
+#![tactic(auto)]
+
 use libc::{STDIN_FILENO, STDOUT_FILENO};
 
 fn main() {

@@ -1,4 +1,6 @@
 // Reading the input of the align program: exactly the texts of the grammar, and the rows into columns.
+#![tactic(auto)]
+
 ghost use Rattle.std.specs.Prelude.{◌≡◌, List, drop, set};
 ghost use Rattle.std.proofs.Math.Option.{some};
 ghost use Rattle.std.specs.Float.{binary32};

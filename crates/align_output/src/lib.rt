@@ -1,4 +1,6 @@
 // Writing the answer of the align program. Each function asks for the room it needs, and is for `align_text`.
+#![tactic(auto)]
+
 ghost use Rattle.std.specs.Prelude.{◌≡◌, ◌+◌, ◌*◌, ◌≤◌, length};
 ghost use Rattle.text.specs.Answer.{Wrote};
 ghost use Rattle.align_output.specs.Output.{

@@ -1,4 +1,6 @@
 // The align program, from the bytes of its input to the bytes of its output.
+#![tactic(auto)]
+
 ghost use Rattle.std.specs.Prelude.{◌≡◌, ◌≤◌, length};
 ghost use Rattle.retention_alignment.specs.Call.{input_at, input_of};
 ghost use Rattle.align_output.specs.Output.{status_text};

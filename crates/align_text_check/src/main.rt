@@ -2,6 +2,8 @@
 // each, its number, how many bytes it says it wrote, and how many bytes of the output changed. What it must write, in
 // `stdout`, was worked out by hand from document 01: a text's own number comes before 3, and its line is written where
 // it fits.
+#![tactic(auto)]
+
 ghost use Rattle.std.specs.Prelude.{◌≤◌};
 
 use align_text::TextAnswer;

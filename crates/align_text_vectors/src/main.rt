@@ -1,6 +1,8 @@
 // Replays stored inputs of the align program. Standard input is the number of texts and then each text, standard
 // output the answer to each; a text and an answer stand behind a line with their length. What is read or written no
 // contract can say: each function is proved safe.
+#![tactic(auto)]
+
 ghost use Rattle.std.specs.Prelude.{◌≡◌, length};
 
 use libc::{STDIN_FILENO, STDOUT_FILENO};

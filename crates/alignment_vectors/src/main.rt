@@ -1,6 +1,8 @@
 // Replays stored alignments of the Rust. Standard input is the number of batches and then, for each, the numbers of
 // files, peptides and rows and the columns file, peptide, label, q and rt; standard output is, for each, the status
 // and the columns max_rt, slope, intercept, used, max_rt_exact, slope_exact, intercept_exact and aligned.
+#![tactic(auto)]
+
 use retention_alignment::AlignAnswer;
 use vectors::Token;
 

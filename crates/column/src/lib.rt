@@ -1,5 +1,7 @@
 // A walker down a column of a matrix (Rust's Iter over Col), which holds the slice that the matrix lies in: thin
 // functions over the cursor `matrix::Col`.
+#![tactic(auto)]
+
 ghost use Rattle.std.specs.Prelude.{◌≡◌};
 ghost use Rattle.matrix.specs.Cells.{step_of};
 

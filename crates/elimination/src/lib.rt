@@ -1,6 +1,8 @@
 // The elimination of gauss.rs on the rows [left | right] of a system: the ridge on the diagonal, echelon form,
 // reduced form, and whether the left side is solved. The crates above walk the ridges: gauss on a copy of the two
 // sides, regression on its own workspace.
+#![tactic(auto)]
+
 ghost use Rattle.std.specs.Prelude.{◌+◌};
 ghost use Rattle.elimination.specs.Rows.{Shape};
 ghost use Rattle.elimination.specs.Elimination.{Tried};

@@ -1,5 +1,7 @@
 // The design rows of sage's retention_model.rs and mobility_model.rs: what a fit and a prediction read of a
 // peptide, 69 or 100 columns, so that both models share the loops above.
+#![tactic(auto)]
+
 ghost use Rattle.std.specs.Prelude.{◌≡◌, ◌++◌, ◌≤◌, ◌<◌, ◌^◌, length, take, drop};
 ghost use Rattle.matrix.specs.Nonzero.{Nonzeros};
 ghost use Rattle.embedding.specs.Design.{order_of, head_of, design};

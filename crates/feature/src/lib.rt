@@ -1,5 +1,7 @@
 // A row of sage's Feature, as far as the models read it: which rows train. A row's fields lie in columns, one slice for
 // each.
+#![tactic(auto)]
+
 ghost use Rattle.std.specs.Prelude.{◌≡◌};
 ghost use Rattle.feature.specs.Feature.{trains};
 

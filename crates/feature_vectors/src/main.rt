@@ -1,4 +1,6 @@
 // Replays stored answers of the Rust's test of a training row: a label as the bits of an i32, and the pattern of q.
+#![tactic(auto)]
+
 use vectors::{Next, Record};
 
 fn answer(r: Record) -> u64 {

@@ -2,6 +2,8 @@
 // once, as refusal_check does for the solver, the alignment and the run, and writes the same of each call. What it must
 // write, in `stdout`, was worked out by hand from document 01. Not tried is 2, which takes slices of 1,048,577 rows or
 // masses.
+#![tactic(auto)]
+
 mod fits;
 
 use embedding::Model;

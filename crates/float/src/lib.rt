@@ -1,5 +1,7 @@
 // Floats: conversions, tests, the one NaN, bit patterns and their hex digits, each equal to a
 // definition over IEEE 754's values.
+#![tactic(auto)]
+
 mod convert; // narrow, widen, ceil_to_u32, u32_to_f64, u32_to_f32
 mod value; // is_finite64, is_finite32, is_normal64, abs32, min64, clamp64
 mod bits; // canonical64, canonical32, bits64, bits32, from_bits64, from_bits32

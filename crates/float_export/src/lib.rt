@@ -1,5 +1,7 @@
 // Functions that return a float under C names, for a test of the bits of a NaN in compiled code, and one that says
 // whether a narrowing was exact.
+#![tactic(auto)]
+
 ghost use Rattle.std.specs.Prelude.{◌≡◌};
 ghost use Rattle.std.specs.Float.{binary32, binary64};
 ghost use Rattle.std.specs.Float.Ieee.{of_bits};

@@ -1,5 +1,7 @@
 // Replays stored answers of the Rust for the functions of `float`: each line of standard input names
 // a function and has its arguments' patterns, and each line of standard output is the result's.
+#![tactic(auto)]
+
 use vectors::{Next, Record};
 
 fn f32_of(v: u64) -> f32 {

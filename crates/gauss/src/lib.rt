@@ -1,4 +1,6 @@
 // Gauss::solve of gauss.rs: Gauss-Jordan elimination with a rising ridge.
+#![tactic(auto)]
+
 ghost use Rattle.gauss.specs.Solve.{system_at, system_of, slices_at, slices_of, Solves, Accepted, Searched};
 
 mod checks; // the checks, in document 01's order

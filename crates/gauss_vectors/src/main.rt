@@ -1,6 +1,8 @@
 // Replays stored answers of the Rust's `Gauss::solve`. Standard input is the number of systems, then for each its
 // order, its number of right columns, and the cells of its left and its right side. Standard output is 9 for each
 // that no ridge solves, else 0, the ridge and the solution's cells.
+#![tactic(auto)]
+
 ghost use Rattle.std.specs.Prelude.{◌≡◌, length, ◌+◌, ◌*◌, ◌<◌, ◌≤◌};
 
 use gauss::SolveAnswer;

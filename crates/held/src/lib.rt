@@ -1,5 +1,7 @@
 // For the programs that make calls which are refused: what the slices hold before a call, and what a call changed in
 // them. They are parts of arrays, which are looked at whole.
+#![tactic(auto)]
+
 use models::PredictOutcome;
 use regression::FitOutcome;
 

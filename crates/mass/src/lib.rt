@@ -1,4 +1,6 @@
 // The residues of sage's mass.rs: `VALID_AA`, and the column that a letter has in an embedding.
+#![tactic(auto)]
+
 ghost use Rattle.std.specs.Prelude.{◌≡◌, ◌+◌, ◌≤◌};
 ghost use Rattle.mass.specs.Mass.{column_of, is_letter, residue_at};
 

@@ -1,5 +1,7 @@
 // Replays stored answers of the Rust for the functions of `mass`: 01 is the column of a letter from A to Z, 02 the
 // residue of a column.
+#![tactic(auto)]
+
 use mass::Residue;
 use vectors::{Next, Record};
 

@@ -1,6 +1,8 @@
 // Matrices that lie row by row in a slice, after sage's matrix.rs: the place of a cell, a row as a part, a checked
 // read, two rows exchanged, and the column cursor. A place is always worked out in 32 bits; who walks the rows in turn
 // adds a row's length instead.
+#![tactic(auto)]
+
 ghost use Rattle.std.specs.Prelude.{◌≡◌, ◌+◌, ◌*◌, ◌^◌, ◌≤◌, ◌<◌, length, replicate};
 ghost use Rattle.float.specs.Number.{zero64};
 ghost use Rattle.matrix.specs.Rows.{place_of, row_at, rows_of, flat, swapped, TwoRows};

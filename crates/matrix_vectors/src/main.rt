@@ -1,5 +1,7 @@
 // Replays stored answers of the Rust's `Matrix::get`: a row, a column and a shape, for a matrix whose cells hold
 // their own places.
+#![tactic(auto)]
+
 use matrix::Cell;
 use vectors::Next;
 

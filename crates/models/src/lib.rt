@@ -1,6 +1,8 @@
 // The retention and the mobility model of sage's retention_model.rs and mobility_model.rs: each is fitted by linear
 // regression to the rows that train, and predicts every row. Both run the same loops, over the enum that names the
 // model.
+#![tactic(auto)]
+
 use regression::FitOutcome;
 
 mod prediction; // predictions and errors

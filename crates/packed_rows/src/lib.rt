@@ -1,6 +1,8 @@
 // Rows of falling width, stored one after the other: the packed upper triangle. They gain a sample by its cells that
 // are not zero: four rows at a time, column after column, so that a place and its value are read once for the four, or
 // one alone. A row's column c lies c cells past the row's base.
+#![tactic(auto)]
+
 ghost use Rattle.std.specs.Prelude.{◌≡◌, List, ℕ, ◌+◌, ◌-◌, ◌≤◌, ◌<◌, length, get_or, take, Float};
 ghost use Rattle.packed_rows.specs.Added.{
   cell_added,

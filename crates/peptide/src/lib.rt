@@ -1,5 +1,7 @@
 // The peptide table: the letters of all peptides in one slice, and offsets that say where each peptide's begin and
 // the last's end.
+#![tactic(auto)]
+
 ghost use Rattle.std.specs.Prelude.{◌≡◌};
 ghost use Rattle.peptide.specs.Table.{offsets_right, letters_right, table_status, sequence_of, HasPeptide};
 

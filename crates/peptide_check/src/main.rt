@@ -2,6 +2,8 @@
 // write, in `stdout`, was worked out by hand from document 01: offsets one more than the peptides, from 0, never
 // falling, ending at the letters' length, no peptide over 255 letters, else 7; then each letter A to Z, else 6. 999
 // stands for no length.
+#![tactic(auto)]
+
 use matrix::PeptideIx;
 
 fn status(letters: &[u8], offsets: &[u32], peptides: usize) {

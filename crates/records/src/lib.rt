@@ -1,4 +1,6 @@
 // A row finds its file's record in a list of records: one lookup, and a row's aligned time by it.
+#![tactic(auto)]
+
 ghost use Rattle.std.specs.Prelude.{◌≡◌};
 ghost use Rattle.records.specs.Record.{LookupCall, TimeByCall, AlignedCall};
 

@@ -9,6 +9,8 @@
 // needed workspace is +0.0 and the rest of it is as it was; 8 and 9 change no output, and a run with 0 changes those of
 // the alignment and of each model whose fit is 0. Not tried is 2 for 1,048,577 rows or masses: that takes slices of so
 // many.
+#![tactic(auto)]
+
 mod alignment;
 mod runs;
 mod solver;

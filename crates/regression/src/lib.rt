@@ -2,6 +2,8 @@
 // solved with the first ridge that does. The steps here are called by the loops of both models, for any
 // order D. The equations are D rows of D + 1 cells, [cov | b]. Since cov is symmetric to the bit, each row is stored
 // from its diagonal on, in the fit's workspace: where, and what else is in it, is this crate's own.
+#![tactic(auto)]
+
 ghost use Rattle.std.specs.Prelude.{◌≡◌, true, List, ◌++◌, ◌+◌, ◌-◌, ◌≤◌, ◌<◌, length, take, Float};
 ghost use Rattle.std.proofs.Math.ListN.{drop};
 ghost use Rattle.matrix.specs.Rows.{flat};

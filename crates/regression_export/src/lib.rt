@@ -1,5 +1,7 @@
 // The two steps that add a sample to the stored normal equations, and the starts that one of them reads, under C names,
 // for tests of the compiled code.
+#![tactic(auto)]
+
 ghost use Rattle.std.specs.Prelude.{◌≡◌, ◌+◌, ◌≤◌, ◌<◌, length};
 ghost use Rattle.status.specs.Limits.{max_order};
 ghost use Rattle.regression.specs.Regression.{add_row};

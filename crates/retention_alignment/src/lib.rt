@@ -1,5 +1,7 @@
 // Global retention time alignment, after sage's retention_alignment.rs: a line for each file that takes its times, as
 // shares of the file's longest time, to the peptides' mean shares over all files.
+#![tactic(auto)]
+
 ghost use Rattle.std.specs.Prelude.{◌≡◌, true, List, map, ℕ, length};
 ghost use Rattle.status.specs.Checks.{all_below};
 ghost use Rattle.status.specs.Status.{accepted};

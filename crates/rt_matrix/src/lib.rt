@@ -2,6 +2,8 @@
 // row of cells for each peptide and in it a cell for each file: the peptide's smallest time there, or ABSENT. No room
 // is given for the peptides' means, so a file's sums are kept in a column of local arrays while the peptides go by,
 // and each pass works out the means anew.
+#![tactic(auto)]
+
 ghost use Rattle.std.specs.Prelude.{◌≡◌, length};
 ghost use Rattle.rt_matrix.specs.Line.{finite_or, line_of};
 ghost use Rattle.rt_matrix.specs.Cells.{records_from, sums_in, SizedAt, Fresh, ShapedAt, LinesIn};

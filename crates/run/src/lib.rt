@@ -1,5 +1,7 @@
 // A whole run over a batch: the alignment of retention times, the retention fit on the aligned times, the mobility
 // fit, and the predictions and errors of each model that fits.
+#![tactic(auto)]
+
 ghost use Rattle.std.specs.Prelude.{◌≡◌};
 ghost use Rattle.status.specs.Status.{accepted};
 ghost use Rattle.rt_matrix.specs.Columns.{file_columns_at, file_columns_of};

@@ -3,6 +3,8 @@
 // label, q, rt, charge and mobility. Standard output is, for each, the status, the columns max_rt, slope, intercept,
 // used, max_rt_exact, slope_exact, intercept_exact and aligned, what each model answers, and the predictions and errors
 // of each that solves.
+#![tactic(auto)]
+
 use models::PredictOutcome;
 use regression::FitOutcome;
 use run::RunAnswer;

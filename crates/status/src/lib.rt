@@ -1,5 +1,7 @@
 // The statuses and the limits of document 01, and the checks that several entry points make: no other crate has
 // numbers of its own for them.
+#![tactic(auto)]
+
 ghost use Rattle.std.specs.Prelude.{◌≡◌, [], ◌∷◌, ◌*◌, eqb, leb};
 ghost use Rattle.status.specs.Checks.{all_below, lengths_agree};
 ghost use Rattle.status.specs.Limits.{within_limits, within_row_limits, within_system_limits};

@@ -1,5 +1,7 @@
 // Texts of `key=value` lines, each closed by LF: readers that take exactly the texts of their
 // definitions, and writers of the same lines. A key is handed in with its `=`.
+#![tactic(auto)]
+
 mod decimal; // read_decimal, read_signed
 mod line; // line_end, starts_with, find_value, read_decimal_line, read_signed_line, read_hex_line
 mod write; // write_bytes, write_decimal, write_decimal_line, write_hex_line

@@ -1,6 +1,8 @@
 // Records of fixed width from standard input, and answers to standard output, for the programs that
 // replay stored answers. All numbers are upper-case hex digits. What is read or written no contract
 // can say, so the contracts here say no more than what a number is made of; each function is proved safe.
+#![tactic(auto)]
+
 ghost use Rattle.std.specs.Prelude.{◌≡◌, ◌%◌};
 ghost use Rattle.std.specs.Int.{w32};
 ghost use Rattle.std.proofs.Common.{to_z};

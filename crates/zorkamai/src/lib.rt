@@ -1,6 +1,8 @@
 // The library for hosts: the entry points under C names, but for the align program's `align_text`. A slice is passed
 // as a pointer and a length; an answer is a status of document 01's table, alone or in a struct beside what the call
 // gives. Each function takes whatever is handed in, and does what its entry point does.
+#![tactic(auto)]
+
 ghost use Rattle.std.specs.Prelude.{◌≡◌};
 ghost use Rattle.embedding.specs.declared.Model.{Model};
 ghost use Rattle.gauss.specs.Solve.{system_of, slices_of as solveSlices};
