@@ -1,9 +1,9 @@
 -- `text::line::read_signed_line` meets its contract: by where the value stands, and by what it is.
 use mathlib.Core.Path.{◌≡◌, sym, ap, ◌∙◌}
 use mathlib.Core.List.{List}
-use Prim.Native.Nat.{ℕ, ◌+◌}
+use Prim.Native.Nat.{ℕ, ◌+◌, ◌-◌}
 use native.Mathlib.Omega.{arith}
-use lib.ListN.{drop}
+use lib.ListN.{take, drop}
 use lib.IntN.{ℤ}
 use mir.Syntax.{w32}
 use mir.Val.{to_z, of_z}
@@ -47,7 +47,7 @@ pub returns : goal.returns
 unfolding signed_line
 returns c =
     let v = c.in-Value.value in
-    let r : to_z w32 (of_z w32 v) ≡ v = to_z-of_z {w = w32} (record { sfits = (signed_sound v _ (signed_some _ v c.in-Value.ensures)).0 }) in
+    let r : to_z w32 (of_z w32 v) ≡ v = to_z-of_z {w = w32} (record { sfits = (signed_sound v (take (c.in-Found.end - c.in-Found.from) (drop c.in-Found.from c.args.text.now)) (signed_some _ v c.in-Value.ensures)).0 }) in
     ap (λ (z : ℤ). SL.Value z (c.in-Found.end + 1)) r
     ∙ ap (SL.Value v) (sym (next_is c.args.text.now c.args.at c.args.key.now c.in-Found.from c.in-Found.end c.in-Found.ensures))
     ∙ ap (signed_line_at c.args.at)
