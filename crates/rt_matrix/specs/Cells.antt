@@ -4,7 +4,7 @@ use mathlib.Core.List.{List, map, zip, zip_with}
 use Rattle.std.proofs.Math.Option.{Option, none, some}
 use Rattle.std.specs.Float.{binary64}
 use Rattle.std.specs.Float.Ieee.{add, mul, sub, div, eq, of_bits}
-use Rattle.params.specs.Slice.{Held, Change, change, Slice}
+use Rattle.params.specs.Slice.{Held, MutHeld, Change, change, Slice, MutSlice}
 use Rattle.float.specs.Value.{is_normal}
 use Rattle.matrix.specs.Rows.{rows_of}
 use Rattle.float.specs.Number.{number, zero64}
@@ -109,20 +109,20 @@ records_from ms ss qs =
 -- ---- as a function's parameters hold them
 
 -- the four columns of sums, and that they have n cells each, in a `requires`
-abbrev pub sums_at : (len : Held ℕ) (dot sum_x sum_y : Held Float) → List Sums
+abbrev pub sums_at : (len : MutHeld ℕ) (dot sum_x sum_y : MutHeld Float) → List Sums
 sums_at len dot sum_x sum_y = sums_of len.now dot.now sum_x.now sum_y.now
 
-abbrev pub SizedAt : (n : ℕ) → (len : Held ℕ) (dot sum_x sum_y : Held Float) → Type 0
+abbrev pub SizedAt : (n : ℕ) → (len : MutHeld ℕ) (dot sum_x sum_y : MutHeld Float) → Type 0
 SizedAt n len dot sum_x sum_y = Sized n len.now dot.now sum_x.now sum_y.now
 
 -- in an `ensures`: the columns of sums, a file's mean with its squares, and a peptide's shares or those of all peptides
-abbrev pub sums_in : (len : Slice ℕ) (dot sum_x sum_y : Slice Float) → Change (List Sums)
+abbrev pub sums_in : (len : MutSlice ℕ) (dot sum_x sum_y : MutSlice Float) → Change (List Sums)
 sums_in len dot sum_x sum_y =
     change
     (sums_at len.entry dot.entry sum_x.entry sum_y.entry)
     (sums_at len.exit dot.exit sum_x.exit sum_y.exit)
 
-abbrev pub spreads_in : (x_mean sx2 : Slice Float) → Change (List Spread)
+abbrev pub spreads_in : (x_mean : Slice Float) (sx2 : MutSlice Float) → Change (List Spread)
 spreads_in x_mean sx2 =
     change (spreads_of x_mean.entry.now sx2.entry.now) (spreads_of x_mean.entry.now sx2.exit.now)
 

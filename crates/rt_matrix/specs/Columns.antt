@@ -1,7 +1,7 @@
 -- The files' records as columns, a slice for each field: a field that the record gains is added here. Definitions only.
 use Rattle.std.specs.Prelude.{ℕ, ◌≤◌, ◌≡◌, Bool, ◌&&◌, leb, length, take, drop, Float}
 use mathlib.Core.List.{List, ◌++◌, map, zip, zip_with}
-use Rattle.params.specs.Slice.{Held, Change, change, Slice}
+use Rattle.params.specs.Slice.{MutHeld, Change, change, MutSlice}
 use Rattle.matrix.specs.Lists.{overwritten}
 use Rattle.rt_matrix.specs.declared.Alignment.{Alignment}
 use Rattle.rt_matrix.specs.declared.FileRoom.{FileRoom}
@@ -18,8 +18,8 @@ pub record FileColumns : Type 0 where
 -- ---- as a function's parameters hold them
 
 -- in a `requires`
-abbrev pub file_columns_at : (max_rt slope intercept : Held Float) (used : Held ℕ)
-    (max_rt_exact slope_exact intercept_exact : Held Bool) → FileColumns
+abbrev pub file_columns_at : (max_rt slope intercept : MutHeld Float) (used : MutHeld ℕ)
+    (max_rt_exact slope_exact intercept_exact : MutHeld Bool) → FileColumns
 file_columns_at max_rt slope intercept used max_rt_exact slope_exact intercept_exact =
     record {
       max_rt = max_rt.now;
@@ -32,8 +32,8 @@ file_columns_at max_rt slope intercept used max_rt_exact slope_exact intercept_e
     }
 
 -- in an `ensures`
-abbrev pub file_columns_of : (max_rt slope intercept : Slice Float) (used : Slice ℕ)
-    (max_rt_exact slope_exact intercept_exact : Slice Bool) → Change FileColumns
+abbrev pub file_columns_of : (max_rt slope intercept : MutSlice Float) (used : MutSlice ℕ)
+    (max_rt_exact slope_exact intercept_exact : MutSlice Bool) → Change FileColumns
 file_columns_of max_rt slope intercept used max_rt_exact slope_exact intercept_exact =
     change
     (file_columns_at max_rt.entry slope.entry intercept.entry used.entry

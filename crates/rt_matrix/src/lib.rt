@@ -6,7 +6,7 @@
 
 ghost use Rattle.std.specs.Prelude.{◌≡◌, length};
 ghost use Rattle.rt_matrix.specs.Line.{finite_or, line_of};
-ghost use Rattle.rt_matrix.specs.Cells.{records_from, sums_in, SizedAt, Fresh, ShapedAt, LinesIn};
+ghost use Rattle.rt_matrix.specs.Cells.{records_from, sums_of, Sized, Fresh, ShapedAt, LinesIn};
 ghost use Rattle.rt_matrix.specs.Columns.{EachOf, each_long, file_columns_at, file_columns_of, records_of};
 
 mod mean;
@@ -110,13 +110,13 @@ fn store_alignments(
     slope_exact: &mut [bool],
     intercept_exact: &mut [bool],
 )
-    requires { SizedAt (length max.now) len dot sum_x sum_y
+    requires { Sized (length max.now) len.now dot.now sum_x.now sum_y.now
         × (length sx2.now ≡ length max.now)
         × EachOf (length max.now) (file_columns_at
         max_rt slope intercept used max_rt_exact slope_exact intercept_exact) }
     ensures { records_of (file_columns_of
         max_rt slope intercept used max_rt_exact slope_exact intercept_exact).exit
-        ≡ records_from max.now (sums_in len dot sum_x sum_y).entry sx2.now }
+        ≡ records_from max.now (sums_of len.now dot.now sum_x.now sum_y.now) sx2.now }
 {
     let mut f = 0usize;
     while f < max.len() {

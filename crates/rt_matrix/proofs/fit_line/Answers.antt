@@ -25,18 +25,20 @@ fitted m len n dot sum_x sum_y sx2 =
     narrowed_by (number m) (finite_or one64 slope) (finite_or zero64 intercept) len
 
 narrowed_is : (m s i : Float) (n : ℕ) {x y z : Narrowed}
-    → (x.value ≡ narrowed m) × (x.exact ≡ is_exact m)
-    → (y.value ≡ narrowed s) × (y.exact ≡ is_exact s)
-    → (z.value ≡ narrowed i) × (z.exact ≡ is_exact i)
+    → x.value ≡ narrowed m → x.exact ≡ is_exact m
+    → y.value ≡ narrowed s → y.exact ≡ is_exact s
+    → z.value ≡ narrowed i → z.exact ≡ is_exact i
     → record_by ((x.value, y.value), (z.value, n)) ((x.exact, y.exact), z.exact) ≡ narrowed_by m s i n
-narrowed_is m s i n p q r = cc (p.0, p.1, q.0, q.1, r.0, r.1)
+narrowed_is m s i n p p' q q' r r' = cc (p, p', q, q', r, r')
 
 pub returns : goal.returns
 unfolding line_of of_bits
 returns c =
     let a = c.args in
     let n = a.s.len in
-    narrowed_is _ _ _ n c.narrow-max_rt.ensures c.narrow-narrow_slope.ensures c.narrow-narrow_intercept.ensures
+    narrowed_is _ _ _ n c.narrow-max_rt.ensures.value_value c.narrow-max_rt.ensures.exact_value
+    c.narrow-narrow_slope.ensures.value_value c.narrow-narrow_slope.ensures.exact_value
+    c.narrow-narrow_intercept.ensures.value_value c.narrow-narrow_intercept.ensures.exact_value
     ∙ ap (λ (x : Float). narrowed_by x c.finite_or-slope.result c.finite_or-intercept.result n)
     c.u32_to_f64.ensures
     ∙ ap₂ (λ (x y : Float). narrowed_by (number a.max) x y n) c.finite_or-slope.ensures

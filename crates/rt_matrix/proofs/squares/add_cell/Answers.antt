@@ -12,12 +12,12 @@ unfolding share at_cell
 returns-then-cell c = λ y.
     let a = c.args in
     sym
-    (ap (λ (o : Option Float). at_cell add_square y (spread a.x-mean a.sx2) (share a.max o)) (decode_absent a.cell c.if-cell.true))
+    (ap (λ (o : Option Float). at_cell add_square y (spread a.x_mean a.sx2) (share a.max o)) (decode_absent a.cell c.if-cell.true))
 
 pub returns : goal.returns
 unfolding share at_cell add_square
 returns c = λ y.
     let a = c.args in
-    ap (λ (x : Float). spread a.x-mean (add binary64 a.sx2 (squared a.x-mean x))) c.share.ensures
+    ap (λ (x : Float). spread a.x_mean (add binary64 a.sx2 (squared a.x_mean x))) c.share.ensures
     ∙ sym
-    (ap (λ (o : Option Float). at_cell add_square y (spread a.x-mean a.sx2) (share a.max o)) (decode_present a.cell c.if-cell.false))
+    (ap (λ (o : Option Float). at_cell add_square y (spread a.x_mean a.sx2) (share a.max o)) (decode_present a.cell c.if-cell.false))

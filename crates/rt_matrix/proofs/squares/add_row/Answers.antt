@@ -26,9 +26,9 @@ loop-f-preserved c =
       simp length-set inv.1,
       λ y.
           let old =
-          spreads_old a.x-mean.now c.loop-f.sx2 (length a.max.now) c.requires.1 inv.1
+          spreads_old a.x_mean.now c.loop-f.sx2 (length a.max.now) c.requires.1 inv.1
           (at_cell add_square y) _ shares f (inv.2 y) (omega arith) in
-          spreads_step a.x-mean.now c.loop-f.sx2 (length a.max.now) c.requires.1 inv.1
+          spreads_step a.x_mean.now c.loop-f.sx2 (length a.max.now) c.requires.1 inv.1
           (at_cell add_square y) _ shares f (inv.2 y) c.add_cell.result none
           (omega (arith, length_shares a.max.now a.row.now c.requires.0))
           (c.add_cell.ensures y ∙ ap₂ (at_cell add_square y) old (sym (shares_at a.max.now a.row.now f (omega arith) (omega arith)))),
@@ -38,4 +38,4 @@ pub returns : goal.returns
 returns c = λ y.
     c.loop-f.invariant.2 y
     ∙ up_to_all _ _ _ _
-    (omega (arith, length_spreads c.args.x-mean.now c.args.sx2.now (length c.args.max.now) c.requires.1 c.requires.2))
+    (omega (arith, length_spreads c.args.x_mean.now c.args.sx2.now (length c.args.max.now) c.requires.1 c.requires.2))

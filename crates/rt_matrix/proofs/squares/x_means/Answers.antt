@@ -25,15 +25,15 @@ loop-f-preserved c =
     let a = c.args in
     let f = c.loop-f.f in
     let inv = c.loop-f.invariant in
-    let v = div binary64 (get_or a.sum-x.now f nan) c.u32_to_f64.result in
-    let is : v ≡ get_or (x_means a.len.now a.sum-x.now) f nan =
-    ap (div binary64 (get_or a.sum-x.now f nan)) c.u32_to_f64.ensures
-    ∙ sym (get_d_zip_with mean_of a.len.now a.sum-x.now f 0 nan nan (omega arith) (omega arith)) in (
+    let v = div binary64 (get_or a.sum_x.now f nan) c.u32_to_f64.result in
+    let is : v ≡ get_or (x_means a.len.now a.sum_x.now) f nan =
+    ap (div binary64 (get_or a.sum_x.now f nan)) c.u32_to_f64.ensures
+    ∙ sym (get_d_zip_with mean_of a.len.now a.sum_x.now f 0 nan nan (omega arith) (omega arith)) in (
       omega arith,
       simp length-set inv.1,
-      up_to_step over f a.x-mean.now (x_means a.len.now a.sum-x.now) c.loop-f.x-mean _ v nan nan
+      up_to_step over f a.x_mean.now (x_means a.len.now a.sum_x.now) c.loop-f.x_mean _ v nan nan
           inv.2 refl is
-          (omega (arith, length_zip_with mean_of a.len.now a.sum-x.now (le_of_eq (sym c.requires.0)))),
+          (omega (arith, length_zip_with mean_of a.len.now a.sum_x.now (le_of_eq (sym c.requires.0)))),
     )
 
 pub returns : goal.returns
@@ -42,4 +42,4 @@ returns c =
     c.loop-f.invariant.2
     ∙ up_to_all _ _ _ _ (omega arith)
     ∙ zipped_over _ _
-    (c.requires.1 ∙ sym (length_zip_with mean_of a.len.now a.sum-x.now (le_of_eq (sym c.requires.0))))
+    (c.requires.1 ∙ sym (length_zip_with mean_of a.len.now a.sum_x.now (le_of_eq (sym c.requires.0))))
