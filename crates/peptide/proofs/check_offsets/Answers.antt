@@ -1,7 +1,7 @@
 -- `peptide::check_offsets` meets its contract. The loop's invariant: the offsets from i on, after the one at `start`,
 -- give what the whole gives.
 use mathlib.Core.Path.{sym, ◌∙◌}
-use Prim.Native.Nat.{◌+◌, ◌-◌, ◌≤◌, ◌<◌}
+use Prim.Native.Nat.{◌+◌, ◌≤◌, ◌<◌}
 use native.Mathlib.Omega.{arith}
 use lib.ListN.{get_or}
 use borrow.Author.Rules.{rules}
