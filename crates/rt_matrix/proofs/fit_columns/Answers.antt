@@ -1,6 +1,6 @@
 -- `rt_matrix::fit_columns` meets its contract: the sums and the squares, taken row by row, are those of each file's
 -- points.
-use mathlib.Core.Path.{sym, ◌∙◌}
+use mathlib.Core.Path.{◌∙◌}
 use native.Mathlib.Omega.{arith}
 use lib.ListN.{length}
 use Rattle.rt_matrix.specs.Cells.{sums_of, Sized}

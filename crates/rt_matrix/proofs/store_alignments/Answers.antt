@@ -1,7 +1,7 @@
 -- `rt_matrix::store_alignments` meets its contract. The loop's invariant: the first f records are written (`up_to f`),
 -- and the lengths are as they were.
 use mathlib.Core.Path.{◌≡◌, refl, sym, ap, ◌∙◌}
-use Prim.Native.Nat.{◌-◌, ◌<◌}
+use Prim.Native.Nat.{◌<◌}
 use native.Mathlib.Omega.{arith}
 use borrow.Author.Rules.{rules}
 use lib.ListN.{length, get_or, length-set}

@@ -1,8 +1,7 @@
 -- `rt_matrix::mean::row_mean` meets its contract. The loop's invariant: the sum and the count, carried on over the
 -- cells from f on, give the whole row's.
 use mathlib.Core.Path.{refl, sym, ap, ap₂, ◌∙◌}
-use mathlib.Core.List.{[]}
-use Prim.Native.Nat.{◌+◌, ◌-◌}
+use Prim.Native.Nat.{◌+◌}
 use native.Mathlib.Omega.{arith}
 use borrow.Author.Rules.{rules}
 use lib.ListN.{length, get_or}

@@ -1,7 +1,7 @@
 -- `rt_matrix::mean::row_mean` meets its contract. The loop's invariant: the sum and the count, carried on over the
 -- cells from f on, give the whole row's.
 use mathlib.Core.Path.{◌≡◌}
-use mathlib.Core.List.{List, []}
+use mathlib.Core.List.{List}
 use Prim.Native.Nat.{ℕ, ◌+◌, ◌-◌, ◌≤◌}
 use lib.ListN.{length, drop}
 use lib.Ieee.{Float}

@@ -2,14 +2,14 @@
 -- that are left, give what the whole gives; the first of these rows starts at `at` (`At`).
 use mathlib.Core.Path.{refl, sym, ap, ◌∙◌}
 use mathlib.Core.List.{List, foldl}
-use Prim.Native.Nat.{ℕ, ◌+◌, ◌-◌, ◌≤◌}
+use Prim.Native.Nat.{ℕ, ◌+◌, ◌-◌}
 use native.Mathlib.Nat.{add-sub_cancel_left, le_refl, sub_self, zero-mul}
 use native.Mathlib.Omega.{arith}
 use borrow.Author.Rules.{rules}
 use lib.ListN.{length, take, drop, length-drop}
 use lib.Seq.{length-take-le}
 use Rattle.rt_matrix.specs.Cells.{Spread, shares_of, row_shares, after_row, add_square, spreads_of}
-use Rattle.rt_matrix.proofs.Peptides.{At, next_row, rows_left, rows_done}
+use Rattle.rt_matrix.proofs.Peptides.{next_row, rows_left, rows_done}
 use Rattle.rt_matrix.proofs.squares.add_peptides.Goals as goal
 
 pub loop-left-init : goal.loop-left-init

@@ -2,7 +2,6 @@
 -- that are left, give what the whole gives; the first of these rows starts at `at` (`At`).
 use mathlib.Core.Path.{◌≡◌}
 use mathlib.Core.List.{foldl}
-use Prim.Native.Nat.{◌-◌}
 use lib.ListN.{length, drop}
 use Rattle.rt_matrix.specs.Cells.{row_shares, after_row, add_square, spreads_of}
 use Rattle.rt_matrix.proofs.Peptides.{At}

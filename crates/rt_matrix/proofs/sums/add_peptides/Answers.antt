@@ -3,7 +3,7 @@
 -- one point for each row that is done.
 use mathlib.Core.Path.{refl, sym, ap, ◌∙◌}
 use mathlib.Core.List.{List, foldl}
-use Prim.Native.Nat.{ℕ, ◌+◌, ◌-◌, ◌≤◌}
+use Prim.Native.Nat.{ℕ, ◌+◌, ◌-◌}
 use native.Mathlib.Nat.{add-sub_cancel_left, le_refl, sub_self, zero-mul}
 use native.Mathlib.Omega.{arith}
 use borrow.Author.Rules.{rules}
@@ -11,7 +11,7 @@ use lib.ListN.{length, take, drop, length-drop}
 use lib.Seq.{length-take-le}
 use Rattle.rt_matrix.specs.Cells.{shares_of, row_shares, after_row, add_point, sums_of, Sized}
 use Rattle.rt_matrix.specs.declared.sums.Sums.{Sums}
-use Rattle.rt_matrix.proofs.Peptides.{At, next_row, rows_left, rows_done}
+use Rattle.rt_matrix.proofs.Peptides.{next_row, rows_left, rows_done}
 use Rattle.rt_matrix.proofs.SumColumns.{one_more}
 use Rattle.rt_matrix.proofs.sums.add_peptides.Goals as goal
 
@@ -50,7 +50,7 @@ loop-left-preserved c =
     (λ (n : ℕ). after_row add_point (sums_of c.loop-left.len c.loop-left.dot c.loop-left.sum_x c.loop-left.sum_y) (shares_of ms (take n (drop c.loop-left.at cells))))
     (add-sub_cancel_left c.loop-left.at (length ms)) in
     let z : Sized (length ms) c.add_peptide.new.len c.add_peptide.new.dot c.add_peptide.new.sum_x c.add_peptide.new.sum_y =
-        record { len = omega arith; dot = omega arith; sum_x = omega arith; sum_y = omega arith } in
+    record { len = omega arith; dot = omega arith; sum_x = omega arith; sum_y = omega arith } in
     let counted =
     one_more (length ms) c.loop-left.len c.loop-left.dot c.loop-left.sum_x c.loop-left.sum_y inv.1 _ _ _ _ z
     (shares_of ms row) e in (

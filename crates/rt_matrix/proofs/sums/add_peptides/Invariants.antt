@@ -3,7 +3,7 @@
 -- one point for each row that is done.
 use mathlib.Core.Path.{◌≡◌}
 use mathlib.Core.List.{foldl}
-use Prim.Native.Nat.{ℕ, ◌+◌, ◌-◌, ◌<◌, ◌^◌}
+use Prim.Native.Nat.{ℕ, ◌+◌, ◌<◌, ◌^◌}
 use lib.ListN.{length, get_or, drop}
 use Rattle.rt_matrix.specs.Cells.{row_shares, after_row, add_point, sums_of, Sized}
 use Rattle.rt_matrix.proofs.Peptides.{At}
