@@ -24,73 +24,73 @@ returns-then-status-ne-ACCEPTED c =
 pub cell_count-outputs-requires : goal.cell_count-outputs-requires
 cell_count-outputs-requires c =
     let p =
-        passed (system_at c.args.left c.args.right c.args.n c.args.c) (slices_at c.args.workspace c.args.solution)
-        (sym c.check-status.ensures ∙ c.if-status-ne-ACCEPTED.false) in
+    passed (system_at c.args.left c.args.right c.args.n c.args.c) (slices_at c.args.workspace c.args.solution)
+    (sym c.check-status.ensures ∙ c.if-status-ne-ACCEPTED.false) in
     (omega (arith, p.order), omega (arith, p.columns), omega (arith, (small p).1))
 
 pub cell_count-requires : goal.cell_count-requires
 cell_count-requires c =
     let p =
-        passed (system_at c.args.left c.args.right c.args.n c.args.c) (slices_at c.args.workspace c.args.solution)
-        (sym c.check-status.ensures ∙ c.if-status-ne-ACCEPTED.false) in
+    passed (system_at c.args.left c.args.right c.args.n c.args.c) (slices_at c.args.workspace c.args.solution)
+    (sym c.check-status.ensures ∙ c.if-status-ne-ACCEPTED.false) in
     (omega (arith, p.order), omega (arith, p.order), omega (arith, (small p).0))
 
 pub overflow_add-needed : goal.overflow_add-needed
 overflow_add-needed c =
     let p =
-        passed (system_at c.args.left c.args.right c.args.n c.args.c) (slices_at c.args.workspace c.args.solution)
-        (sym c.check-status.ensures ∙ c.if-status-ne-ACCEPTED.false) in
+    passed (system_at c.args.left c.args.right c.args.n c.args.c) (slices_at c.args.workspace c.args.solution)
+    (sym c.check-status.ensures ∙ c.if-status-ne-ACCEPTED.false) in
     omega (arith, c.cell_count.ensures, c.cell_count-outputs.ensures, (small p).0, (small p).1)
 
 -- the parts of the workspace and of the output that a call needs
 pub slice_bounds-first_solved-end : goal.slice_bounds-first_solved-end
 slice_bounds-first_solved-end c =
     let p =
-        passed (system_at c.args.left c.args.right c.args.n c.args.c) (slices_at c.args.workspace c.args.solution)
-        (sym c.check-status.ensures ∙ c.if-status-ne-ACCEPTED.false) in
+    passed (system_at c.args.left c.args.right c.args.n c.args.c) (slices_at c.args.workspace c.args.solution)
+    (sym c.check-status.ensures ∙ c.if-status-ne-ACCEPTED.false) in
     omega (arith, c.cell_count.ensures, c.cell_count-outputs.ensures, p.cell_room)
 
 pub slice_bounds-first_solved-end-2 : goal.slice_bounds-first_solved-end-2
 slice_bounds-first_solved-end-2 c =
     let p =
-        passed (system_at c.args.left c.args.right c.args.n c.args.c) (slices_at c.args.workspace c.args.solution)
-        (sym c.check-status.ensures ∙ c.if-status-ne-ACCEPTED.false) in
+    passed (system_at c.args.left c.args.right c.args.n c.args.c) (slices_at c.args.workspace c.args.solution)
+    (sym c.check-status.ensures ∙ c.if-status-ne-ACCEPTED.false) in
     let e : c.cell_count.result + c.cell_count-outputs.result ≡ needed c.args.n c.args.c =
-        omega (arith, c.cell_count.ensures, c.cell_count-outputs.ensures) in
+    omega (arith, c.cell_count.ensures, c.cell_count-outputs.ensures) in
     sym (cells_taken (system_at c.args.left c.args.right c.args.n c.args.c) (slices_at c.args.workspace c.args.solution)
     (c.cell_count.result + c.cell_count-outputs.result) c.cell_count-outputs.result e c.cell_count-outputs.ensures p)
 
 pub slice_bounds-first_solved-end-3 : goal.slice_bounds-first_solved-end-3
 slice_bounds-first_solved-end-3 c =
     let p =
-        passed (system_at c.args.left c.args.right c.args.n c.args.c) (slices_at c.args.workspace c.args.solution)
-        (sym c.check-status.ensures ∙ c.if-status-ne-ACCEPTED.false) in
+    passed (system_at c.args.left c.args.right c.args.n c.args.c) (slices_at c.args.workspace c.args.solution)
+    (sym c.check-status.ensures ∙ c.if-status-ne-ACCEPTED.false) in
     omega (arith, c.cell_count-outputs.ensures, p.solution_room)
 
 pub slice_bounds-first_solved-end-4 : goal.slice_bounds-first_solved-end-4
 slice_bounds-first_solved-end-4 c =
     let p =
-        passed (system_at c.args.left c.args.right c.args.n c.args.c) (slices_at c.args.workspace c.args.solution)
-        (sym c.check-status.ensures ∙ c.if-status-ne-ACCEPTED.false) in
+    passed (system_at c.args.left c.args.right c.args.n c.args.c) (slices_at c.args.workspace c.args.solution)
+    (sym c.check-status.ensures ∙ c.if-status-ne-ACCEPTED.false) in
     let e : c.cell_count.result + c.cell_count-outputs.result ≡ needed c.args.n c.args.c =
-        omega (arith, c.cell_count.ensures, c.cell_count-outputs.ensures) in
+    omega (arith, c.cell_count.ensures, c.cell_count-outputs.ensures) in
     sym (outputs_taken (system_at c.args.left c.args.right c.args.n c.args.c) (slices_at c.args.workspace c.args.solution)
     (c.cell_count.result + c.cell_count-outputs.result) c.cell_count-outputs.result e c.cell_count-outputs.ensures p)
 
 pub first_solved-requires : goal.first_solved-requires
 first_solved-requires c =
     let p =
-        passed (system_at c.args.left c.args.right c.args.n c.args.c) (slices_at c.args.workspace c.args.solution)
-        (sym c.check-status.ensures ∙ c.if-status-ne-ACCEPTED.false) in
+    passed (system_at c.args.left c.args.right c.args.n c.args.c) (slices_at c.args.workspace c.args.solution)
+    (sym c.check-status.ensures ∙ c.if-status-ne-ACCEPTED.false) in
     let e : c.cell_count.result + c.cell_count-outputs.result ≡ needed c.args.n c.args.c =
-        omega (arith, c.cell_count.ensures, c.cell_count-outputs.ensures) in
+    omega (arith, c.cell_count.ensures, c.cell_count-outputs.ensures) in
     taken (system_at c.args.left c.args.right c.args.n c.args.c) (slices_at c.args.workspace c.args.solution)
     (c.cell_count.result + c.cell_count-outputs.result) c.cell_count-outputs.result e c.cell_count-outputs.ensures p
 
 pub returns : goal.returns
 returns c =
     let e : c.cell_count.result + c.cell_count-outputs.result ≡ needed c.args.n c.args.c =
-        omega (arith, c.cell_count.ensures, c.cell_count-outputs.ensures) in
+    omega (arith, c.cell_count.ensures, c.cell_count-outputs.ensures) in
     let f = c.first_solved in
     answered (system_at c.args.left c.args.right c.args.n c.args.c) (slices_at c.args.workspace c.args.solution)
     (c.cell_count.result + c.cell_count-outputs.result) c.cell_count-outputs.result e c.cell_count-outputs.ensures
