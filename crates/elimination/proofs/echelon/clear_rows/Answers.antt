@@ -1,7 +1,6 @@
 -- `elimination::echelon::clear_rows` meets its contract. The loop's invariant: column k is cleared in the first i
 -- rows (`RowsMade`).
 use mathlib.Core.Path.{refl, sym, ◌∙◌}
-use Prim.Native.Nat.{◌-◌}
 use native.Mathlib.Nat.{zero-mul}
 use native.Mathlib.Omega.{arith}
 use lib.ListN.{length}

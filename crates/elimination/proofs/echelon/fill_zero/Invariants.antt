@@ -1,7 +1,6 @@
 -- `elimination::echelon::fill_zero` meets its contract. The loop's invariant: the ridge is on the diagonal of the
 -- first i rows (`made i`), and row i starts at `at`.
 use mathlib.Core.Path.{◌≡◌}
-use mathlib.Core.List.{[]}
 use Prim.Native.Nat.{◌*◌, ◌≤◌, ◌-◌}
 use lib.ListN.{length}
 use Rattle.matrix.specs.Rows.{rows_of}

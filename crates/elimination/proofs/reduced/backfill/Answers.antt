@@ -2,10 +2,9 @@
 -- up, gives what all of them give; row i starts at `at`, and past the last row the cells end; the flags stay true.
 use mathlib.Core.Path.{◌≡◌, refl, sym, ap, ◌∙◌}
 use mathlib.Core.List.{List}
-use Prim.Native.Nat.{ℕ, suc, ◌*◌, ◌≤◌, ◌<◌, ◌-◌}
+use Prim.Native.Nat.{ℕ, suc, ◌<◌, ◌-◌}
 use native.Mathlib.Nat.{le_refl}
 use native.Mathlib.Omega.{arith}
-use lib.ListN.{length}
 use lib.Ieee.{Float}
 use Rattle.matrix.specs.Rows.{rows_of}
 use Rattle.matrix.proofs.Laws.{length_rows_of}

@@ -1,6 +1,5 @@
 -- `elimination::reduced::reduce` meets its contract. The loop's invariant: the first i rows are divided (`RowsMade`).
 use mathlib.Core.Path.{refl, sym, ◌∙◌}
-use Prim.Native.Nat.{◌-◌}
 use native.Mathlib.Nat.{zero-mul}
 use native.Mathlib.Omega.{arith}
 use Rattle.matrix.proofs.Laws.{length_rows_of}

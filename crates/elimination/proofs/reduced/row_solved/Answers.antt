@@ -1,8 +1,8 @@
 -- `elimination::reduced::row_solved` meets its contract. The loop's invariant: what is left of the row gives what the
 -- row gives.
 use mathlib.Core.Path.{refl}
-use mathlib.Core.List.{List, []}
-use Prim.Native.Nat.{suc, ◌≤◌, ◌<◌, ◌-◌}
+use mathlib.Core.List.{List}
+use Prim.Native.Nat.{suc, ◌≤◌, ◌<◌}
 use native.Mathlib.Omega.{arith}
 use native.Mathlib.Numerals.{add-one}
 use lib.ListN.{length, drop, drop_of_length-le}

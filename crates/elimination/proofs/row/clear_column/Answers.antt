@@ -1,7 +1,7 @@
 -- `elimination::row::clear_column` meets its contract: the cells up to k are the front of the new row, and the part
 -- that was lent is the rest of it.
 use mathlib.Core.Path.{◌≡◌, refl, ◌∙◌}
-use mathlib.Core.List.{List, []}
+use mathlib.Core.List.{List}
 use Prim.Native.Nat.{ℕ, suc, ◌+◌, ◌-◌, ◌<◌}
 use native.Mathlib.Numerals.{add-one}
 use native.Mathlib.Nat.{le_refl}

@@ -2,7 +2,7 @@
 -- and row i of the cells and of the two sides starts at `at`, `l` and `r`.
 use mathlib.Core.Path.{◌≡◌, refl, sym, ap, ◌∙◌}
 use mathlib.Core.List.{List, [], ◌++◌}
-use Prim.Native.Nat.{ℕ, ◌+◌, ◌*◌, ◌≤◌, ◌<◌, ◌-◌}
+use Prim.Native.Nat.{ℕ, ◌+◌, ◌*◌, ◌<◌, ◌-◌}
 use native.Mathlib.Nat.{zero-mul, add_assoc, add-sub_cancel_left}
 use native.Mathlib.Omega.{arith}
 use native.Mathlib.Numerals.{add-one}

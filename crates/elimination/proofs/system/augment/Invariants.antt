@@ -1,7 +1,6 @@
 -- `elimination::system::augment` meets its contract. The loop's invariant: the first i rows are joined (`made i`),
 -- and row i of the cells and of the two sides starts at `at`, `l` and `r`.
 use mathlib.Core.Path.{◌≡◌}
-use mathlib.Core.List.{[]}
 use Prim.Native.Nat.{◌+◌, ◌*◌, ◌≤◌, ◌-◌}
 use lib.ListN.{length}
 use Rattle.matrix.specs.Rows.{rows_of}
