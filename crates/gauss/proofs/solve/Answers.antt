@@ -1,13 +1,11 @@
 -- `gauss::solve` meets its contract: refused where a check fails, and otherwise as the search over the needed parts
 -- answers.
 use mathlib.Core.Path.{◌≡◌, sym, ◌∙◌}
-use Prim.Native.Nat.{ℕ, ◌+◌, ◌*◌, ◌≤◌}
+use Prim.Native.Nat.{◌+◌, ◌*◌, ◌≤◌}
 use native.Mathlib.Nat.{mul-le-mul}
 use native.Mathlib.Omega.{arith}
-use lib.ListN.{length, take}
-use Rattle.status.specs.Status.{accepted}
 use Rattle.status.specs.Limits.{max_order, max_columns}
-use Rattle.gauss.specs.Solve.{System, Slices, system_at, slices_at, outputs, needed, status}
+use Rattle.gauss.specs.Solve.{System, Slices, system_at, slices_at, needed}
 use Rattle.gauss.proofs.Answer.{Passed, passed, refused, cells_taken, outputs_taken, taken, answered}
 use Rattle.gauss.proofs.solve.Goals as goal
 
