@@ -72,7 +72,8 @@ slice_bounds-first_solved-end-4 c =
     (sym c.check-status.ensures ∙ c.if-status-ne-ACCEPTED.false) in
     let e : c.cell_count.result + c.cell_count-outputs.result ≡ needed c.args.n c.args.c =
     omega (arith, c.cell_count.ensures, c.cell_count-outputs.ensures) in
-    sym (outputs_taken (system_at c.args.left c.args.right c.args.n c.args.c) (slices_at c.args.workspace c.args.solution)
+    sym (outputs_taken (system_at c.args.left c.args.right c.args.n c.args.c)
+    (slices_at c.args.workspace c.args.solution)
     (c.cell_count.result + c.cell_count-outputs.result) c.cell_count-outputs.result e c.cell_count-outputs.ensures p)
 
 pub first_solved-requires : goal.first_solved-requires

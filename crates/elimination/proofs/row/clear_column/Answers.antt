@@ -27,8 +27,16 @@ put_cleared : (k : ℕ) (row pivot part : List Float) → k < length row
 unfolding cleared
 put_cleared k row pivot part h e =
     put_rest (k + 1) (set row k zero64) part
-    ∙ rw
-    (e, rest (k + 1) (set row k zero64), rest (k + 1) pivot, add-one, take-suc-set row k zero64 h, drop-set-lt (suc k) row k zero64 (le_refl (suc k)), append_snoc) refl
+    ∙ rw (
+      e,
+      rest (k + 1) (set row k zero64),
+      rest (k + 1) pivot,
+      add-one,
+      take-suc-set row k zero64 h,
+      drop-set-lt
+          (suc k) row k zero64 (le_refl (suc k)),
+      append_snoc,
+    ) refl
 
 pub slice_bounds-subtract_scaled-count : goal.slice_bounds-subtract_scaled-count
 slice_bounds-subtract_scaled-count c = simp length-set (omega arith)

@@ -15,7 +15,9 @@ invariant-loop-i l =
     × (l.l ≡ l.i * l.n)
     × (l.r ≡ l.i * l.c)
     ×
-    (rows_of (l.n + l.c) l.n l.cells ≡ made (λ j x. row_of (augmented (rows_of l.n l.n l.left) (rows_of l.c l.n l.right)) j) l.i (rows_of (l.n + l.c) l.n l.initial.cells))
+    (rows_of (l.n + l.c) l.n l.cells
+    ≡ made (λ j x. row_of (augmented (rows_of l.n l.n l.left) (rows_of l.c l.n l.right)) j) l.i
+    (rows_of (l.n + l.c) l.n l.initial.cells))
     × (length l.cells ≡ length l.initial.cells)
 
 abbrev pub decreases-loop-i : goal.decreases-loop-i
