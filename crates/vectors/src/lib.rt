@@ -5,8 +5,7 @@
 #![tactic(auto)]
 
 ghost use Rattle.std.specs.Prelude.{◌≡◌, ◌%◌};
-ghost use Rattle.std.specs.Int.{w32};
-ghost use Rattle.std.proofs.Common.{to_z};
+ghost use Rattle.std.specs.Int.{cast_signed, w32};
 
 use float::HexRead;
 use std::io;
@@ -91,7 +90,7 @@ pub fn low32(v: u64) -> u32
 
 // The i32 with the pattern b.
 pub fn signed(b: u32) -> i32
-    ensures { result ≡ to_z w32 b }
+    ensures { result ≡ cast_signed w32 b }
 {
     if b < 2147483648 {
         return b as i32;
