@@ -1,7 +1,6 @@
 -- `elimination::row::is_plain` meets its contract. The loop's invariant: no cell that was passed is -0.0.
 use mathlib.Core.Path.{sym, ◌∙◌}
 use mathlib.Core.Bool.{false≢true}
-use Prim.Native.Nat.{◌-◌}
 use native.Mathlib.Omega.{arith}
 use borrow.Author.Count.{below_more}
 use borrow.Author.Tests.{not-false}
