@@ -69,7 +69,7 @@ pivot_place n w h k p cells lk lh e = let r = pivot_row_lem n w h k cells lk lh 
 abbrev two_rows : (n w h p a b : ℕ) (cells : List Float) → length cells ≡ n * w → h < n → a ≡ h * w → p < n → b ≡ p * w
     → TwoRows w a b (length cells)
 two_rows n w h p a b cells e lh ea lp eb =
-    record { rows = n; i = h; j = p; count = e; first = (lh, ea); second = (lp, eb); }
+    record { rows = n; i = h; j = p; count = e; first = (lh, ea); second = (lp, eb) }
 
 pub loop-k-init : goal.loop-k-init
 loop-k-init c =
@@ -163,8 +163,8 @@ loop-k-preserved c =
     let old : List (List Float) = rows_of a.w a.n l.cells in
     let row = pivot_place a.n a.w l.h l.k i l.cells t (omega arith) c.pivot-i.ensures in
     let two =
-        two_rows a.n a.w l.h i l.at_h c.cell_count-at_i.result l.cells (l.invariant.3 ∙ c.requires.count)
-        (omega (arith, t)) l.invariant.1 row c.cell_count-at_i.ensures in
+    two_rows a.n a.w l.h i l.at_h c.cell_count-at_i.result l.cells (l.invariant.3 ∙ c.requires.count)
+    (omega (arith, t)) l.invariant.1 row c.cell_count-at_i.ensures in
     let exchanged : rows_of a.w a.n x.new.cells ≡ swapped l.h i old =
     ap (rows_of a.w a.n) (x.ensures two)
     ∙ swapped_rows a.w a.n l.h i l.cells (omega arith) row (l.invariant.3 ∙ c.requires.count) in
