@@ -6,7 +6,7 @@ use Prim.Native.Nat.{ℕ, ◌+◌, ◌-◌, ◌≤◌, ◌<◌}
 use native.Mathlib.Omega.{arith}
 use lib.ListN.{length, get_or, take, drop, length-drop}
 use lib.Seq.{length-take-le, take_all, get_or-take, get_or-drop}
-use lib.Ieee.{Float, nan}
+use lib.Ieee.{Float}
 use Rattle.packed_rows.specs.Added.{column_added, columns_added, runs_added, rows_of, Gained}
 use Rattle.packed_rows.proofs.Places.{values_long}
 use Rattle.packed_rows.proofs.Begun.{in_four, fits_at, four_done}
