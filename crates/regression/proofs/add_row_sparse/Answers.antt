@@ -8,7 +8,6 @@ use native.Mathlib.Omega.{arith}
 use lib.Ieee.{Float, nan}
 use lib.ListN.{length, get_or, take}
 use lib.Seq.{length-take-le}
-use borrow.Author.Tests.{not-true, not-false}
 use Rattle.matrix.specs.Nonzero.{nonzeros, Nonzeros}
 use Rattle.matrix.proofs.Nonzero.{nonzeros_few}
 use Rattle.regression.specs.Sparse.{all_finite, ListedRow, add_visited, visited}

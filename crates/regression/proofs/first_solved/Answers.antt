@@ -86,8 +86,7 @@ right_side-requires c =
     let l = c.loop-eps in
     let f =
     fits c.args.d c.system_length-split.result c.args.workspace.now l.workspace c.attempt.new.workspace
-    c.system_length-split.ensures c.requires.0.count l.invariant.0 c.attempt.auto.workspace in
-    (
+    c.system_length-split.ensures c.requires.0.count l.invariant.0 c.attempt.auto.workspace in (
       ap length l.invariant.2 ∙ c.requires.1 ∙ sym (mul-one _),
       simp length-take (omega (arith, f, c.system_length-split.ensures)),
     )

@@ -2,7 +2,7 @@
 -- and those from k on are.
 use mathlib.Core.Path.{◌≡◌, refl, sym, ap, ◌∙◌}
 use mathlib.Core.Bool.{Bool, ◌&&◌, and-true, and-false}
-use Prim.Native.Nat.{◌+◌, ◌-◌}
+use Prim.Native.Nat.{◌+◌}
 use native.Mathlib.Numerals.{add-one}
 use native.Mathlib.Omega.{arith}
 use lib.ListN.{get_or, drop, drop_of_length-le}
@@ -29,9 +29,9 @@ loop-k-preserved c =
     l.invariant.1 ∙ ap (λ (b : Bool). l.finite && b) (every_step is_finite l.k cells nan (omega arith) ∙ rw add-one) in (
       omega arith,
       elim c.if-not-is_finite64.branch [
-        then-not-is_finite64 w ↦
+        | then-not-is_finite64 w ↦
             rw w.finite-is (step ∙ rw (sym f.ensures ∙ w.if-not-is_finite64.true) (and-false l.finite))
-      | else-not-is_finite64 w ↦ rw w.finite-is (step ∙ rw (sym f.ensures ∙ w.if-not-is_finite64.false))
+        | else-not-is_finite64 w ↦ rw w.finite-is (step ∙ rw (sym f.ensures ∙ w.if-not-is_finite64.false))
       ],
     )
 

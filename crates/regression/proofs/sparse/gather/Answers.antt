@@ -3,7 +3,7 @@
 use mathlib.Core.Path.{◌≡◌, refl, sym, ap, ◌∙◌, subst}
 use mathlib.Core.Bool.{true, false, cond}
 use mathlib.Core.List.{List, [], ◌∷◌, ◌++◌, append-nil}
-use Prim.Native.Nat.{ℕ, ◌+◌, ◌-◌, ◌≤◌, ◌<◌}
+use Prim.Native.Nat.{ℕ, ◌+◌, ◌≤◌, ◌<◌}
 use native.Mathlib.Numerals.{add-one}
 use native.Mathlib.Omega.{arith}
 use lib.ListN.{length, get_or, set, take, length-append, length-set}
@@ -94,11 +94,11 @@ loop-j-preserved c =
     let h : l.j < length ext = omega arith in
     let at = Then ext a.places.now a.values.now l.places l.values l.n l.j l.invariant h c.requires in
     elim c.if-ext-j.branch [
-      then-ext-j w ↦
+      | then-ext-j w ↦
           subst at (sym w.n-is)
           (kept ext a.places.now a.values.now l.places l.values l.n l.j l.invariant h c.requires
           (sym (is_zero_lem y) ∙ not-true _ w.if-ext-j.true))
-    | else-ext-j w ↦
+      | else-ext-j w ↦
           subst at (sym w.n-is)
           (passed ext a.places.now a.values.now l.places l.values l.n l.j l.invariant h c.requires
           (sym (is_zero_lem y) ∙ not-false _ w.if-ext-j.false))
