@@ -1,6 +1,5 @@
 -- `regression::unfold` meets its contract. The loop's invariant: the first j full rows are written and what is stored
 -- is as it was (`RowsWritten`), and `to` is row j's first cell.
---
 use mathlib.Core.Path.{◌≡◌, refl, sym, ◌∙◌}
 use Prim.Native.Nat.{◌+◌, ◌≤◌}
 use native.Mathlib.Nat.{zero-mul}

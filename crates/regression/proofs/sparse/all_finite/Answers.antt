@@ -1,5 +1,5 @@
--- `regression::sparse::all_finite` meets its contract. The loop's invariant: all cells are finite where the flag says so
--- and those from k on are.
+-- `regression::sparse::all_finite` meets its contract. The loop's invariant: all cells are finite where the flag
+-- says so and those from k on are.
 use mathlib.Core.Path.{◌≡◌, refl, sym, ap, ◌∙◌}
 use mathlib.Core.Bool.{Bool, ◌&&◌, and-true, and-false}
 use Prim.Native.Nat.{◌+◌}
@@ -26,7 +26,8 @@ loop-k-preserved c =
     let x : Float = get_or cells l.k nan in
     let later : Bool = every is_finite (drop (l.k + 1) cells) in
     let step : all_finite cells ≡ l.finite && (is_finite x && later) =
-    l.invariant.1 ∙ ap (λ (b : Bool). l.finite && b) (every_step is_finite l.k cells nan (omega arith) ∙ rw add-one) in (
+    l.invariant.1 ∙ ap (λ (b : Bool). l.finite && b)
+    (every_step is_finite l.k cells nan (omega arith) ∙ rw add-one) in (
       omega arith,
       elim c.if-not-is_finite64.branch [
         | then-not-is_finite64 w ↦
