@@ -1,4 +1,4 @@
-//! Links `libNAME.a`, which `rt staticlib NAME` writes, where NAME is the `links` of Cargo.toml; from the folder that
+//! Links `libNAME.a`, which `.ci/staticlib NAME` writes, where NAME is the `links` of Cargo.toml; from the folder that
 //! `$STATICLIB_DIR` names by its whole path, without it from `target/staticlib` of the repository this stands in.
 //! `host/nan_bits` and `host/steps` have this build script too.
 use std::env;
@@ -14,7 +14,7 @@ fn main() {
     };
     let archive = folder.join(format!("lib{name}.a"));
     println!("cargo:rerun-if-changed={}", archive.display());
-    assert!(archive.exists(), "{} is missing: run `rt staticlib {name}` first", archive.display());
+    assert!(archive.exists(), "{} is missing: run `.ci/staticlib {name}` first", archive.display());
     println!("cargo:rustc-link-search=native={}", folder.display());
     println!("cargo:rustc-link-lib=static={name}");
 }

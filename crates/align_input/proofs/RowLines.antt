@@ -7,13 +7,14 @@ use native.Mathlib.Nat.{add-zero, add_assoc}
 use native.Mathlib.Omega.{arith}
 use lib.ListN.{drop}
 use lib.IntN.{ℤ}
+use lib.Signed.{mag}
 use Rattle.text.specs.declared.line.DecimalLine.TheVariants as DL
 use Rattle.text.specs.declared.line.SignedLine.TheVariants as SL
 use Rattle.text.specs.declared.line.HexLine.TheVariants as HL
 use Rattle.text.specs.Reader.{Read, value, malformed, Reader, further, give, ◌>>=◌}
 use Rattle.text.specs.Line.{line_of, decimal_line, signed_line, hex_line}
 use Rattle.text.specs.Answer.{decimal_line_at, signed_line_at, hex_line_at}
-use Rattle.text.proofs.Numbers.{hex_line_reads}
+use Rattle.text.proofs.Numbers.{signed_line_reads, hex_line_reads}
 use Rattle.text.proofs.Places.{
   decimal_line_none,
   decimal_line_some,
@@ -57,6 +58,13 @@ pub pattern_lt : (t key : List ℕ) (at v next : ℕ) → line_of key ≡ none
 pattern_lt t key at v next k h =
     let w = hex_line_some at v next (hex_line key 8 (drop at t)) h in
     ((hex_line_reads key k 8 (omega arith) (omega arith)).sound v w.0 (drop at t) w.1).0
+
+-- a line of a signed number gives one of 32 bits
+pub label_lt : (t key : List ℕ) (at : ℕ) (v : ℤ) (next : ℕ) → line_of key ≡ none
+    → SL.Value v next ≡ signed_line_at at (signed_line key (drop at t)) → mag v < 2 ^ 31
+label_lt t key at v next k h =
+    let w = signed_line_some at v next (signed_line key (drop at t)) h in
+    ((signed_line_reads key k).sound v w.0 (drop at t) w.1).0
 
 module _ (t : List ℕ) (at : ℕ) where
   pub bad1 : DL.Malformed ≡ decimal_line_at at (decimal_line file_key max_u32 (drop at t))

@@ -1,7 +1,7 @@
 -- The answers of the functions that read, and the columns that rows are stored in. Definitions only.
 use Rattle.std.specs.Prelude.{ℕ, ◌+◌, ◌≡◌, List, map, length, set, ℤ, Float}
 use Rattle.std.proofs.Math.Option.{Option, none, some}
-use Rattle.params.specs.Slice.{Change, change, Slice}
+use Rattle.params.specs.Slice.{Change, change, MutSlice}
 use Rattle.std.proofs.lemmas.List.Edits.{sets}
 use Rattle.std.specs.Float.{binary32}
 use Rattle.std.specs.Float.Ieee.{of_bits}
@@ -56,7 +56,7 @@ abbrev pub columns : List ℕ → List ℕ → List ℤ → List Float → List 
 columns file peptide label q rt = record { file = file; peptide = peptide; label = label; q = q; rt = rt }
 
 -- as a function's parameters hold them, in an `ensures`
-abbrev pub columns_of : (file peptide : Slice ℕ) (label : Slice ℤ) (q rt : Slice Float) → Change Columns
+abbrev pub columns_of : (file peptide : MutSlice ℕ) (label : MutSlice ℤ) (q rt : MutSlice Float) → Change Columns
 columns_of file peptide label q rt =
     change
     (columns file.entry.now peptide.entry.now label.entry.now q.entry.now rt.entry.now)

@@ -182,8 +182,8 @@ fn read_rows(
     q: &mut [f32],
     rt: &mut [f32],
 ) -> RowsRead
-    ensures value { result ≡ count_from 0 (rows_of (drop at input.now)) }
-    ensures rt_value { (rows : List TextRow·) → rows_of (drop at input.now) ≡ some rows
+    ensures answer { result ≡ count_from 0 (rows_of (drop at input.now)) }
+    ensures columns { (rows : List TextRow·) → rows_of (drop at input.now) ≡ some rows
         → (columns_of file peptide label q rt).exit ≡ stored (columns_of file peptide label q rt).entry 0 rows }
 {
     let mut next = at;
@@ -219,8 +219,8 @@ pub fn read_input(
     q: &mut [f32],
     rt: &mut [f32],
 ) -> InputRead
-    ensures value { result ≡ input_read (parse input.now) }
-    ensures rt_value { (d : Input) → parse input.now ≡ some d
+    ensures answer { result ≡ input_read (parse input.now) }
+    ensures columns { (d : Input) → parse input.now ≡ some d
         → (columns_of file peptide label q rt).exit
         ≡ stored (columns_of file peptide label q rt).entry 0 d.rows }
 {

@@ -7,6 +7,7 @@
 ghost use Rattle.std.specs.Prelude.{◌≤◌};
 
 use align_text::TextAnswer;
+use std::io;
 
 // What every byte of an output holds before a call: no answer has it.
 const BYTE: u8 = b'*';
@@ -32,63 +33,63 @@ fn changed(bytes: &[u8; BYTES]) -> u64 {
 }
 
 // Writes what a call answers and leaves, whose output has so many bytes.
-fn text(input: &[u8], bytes: usize)
+fn text(out: &impl Print, input: &[u8], bytes: usize) -> io::Result<()>
     requires { bytes ≤ 128 }
 {
     let mut output = [BYTE; BYTES];
     let answer = align_text::align_text(input, &mut output[..bytes]);
-    vectors::write_token(number(answer));
-    vectors::write_token(align_text::written(answer) as u64);
-    vectors::write_token(changed(&output));
+    vectors::write_token(out, number(answer))?;
+    vectors::write_token(out, align_text::written(answer) as u64)?;
+    vectors::write_token(out, changed(&output))
 }
 
 // 10: a plus in a number. Its line has 10 bytes: it fits, it is a byte too long, there is no room at all.
-fn malformed() {
+fn malformed(out: &impl Print) -> io::Result<()> {
     let input = b"files=+1\npeptides=1\n";
-    text(input, 10);
-    text(input, 9);
-    text(input, 0);
+    text(out, input, 10)?;
+    text(out, input, 9)?;
+    text(out, input, 0)
 }
 
 // 2: no file. The line of a refusal other than 10 has 9 bytes.
-fn limits() {
+fn limits(out: &impl Print) -> io::Result<()> {
     let input = b"files=0\npeptides=1\n";
-    text(input, 9);
-    text(input, 8);
+    text(out, input, 9)?;
+    text(out, input, 8)
 }
 
 // 2: 17 files. 3: 9 files and 16, which are accepted: their answers have more than 128 bytes.
-fn files() {
-    text(b"files=17\npeptides=0\n", 9);
-    text(b"files=9\npeptides=0\n", 128);
-    text(b"files=16\npeptides=0\n", 128);
+fn files(out: &impl Print) -> io::Result<()> {
+    text(out, b"files=17\npeptides=0\n", 9)?;
+    text(out, b"files=9\npeptides=0\n", 128)?;
+    text(out, b"files=16\npeptides=0\n", 128)
 }
 
 // 4: file 2 of 2; with peptide 1 of 1, which is 5 too. 5: peptide 1 of 1. Each with room for its line and with none.
-fn numbers() {
+fn numbers(out: &impl Print) -> io::Result<()> {
     let file = b"files=2\npeptides=1\nfile=2\npeptide=0\nlabel=1\nq=00000000\nrt=41200000\n";
-    text(file, 9);
-    text(file, 0);
+    text(out, file, 9)?;
+    text(out, file, 0)?;
     let both = b"files=2\npeptides=1\nfile=2\npeptide=1\nlabel=1\nq=00000000\nrt=41200000\n";
-    text(both, 0);
+    text(out, both, 0)?;
     let peptide = b"files=1\npeptides=1\nfile=0\npeptide=1\nlabel=1\nq=00000000\nrt=41200000\n";
-    text(peptide, 9);
-    text(peptide, 0);
+    text(out, peptide, 9)?;
+    text(out, peptide, 0)
 }
 
 // Document 01's text, whose answer has 87 bytes. 0: it fits, with room to spare and just so. 3: it does not.
-fn accepted() {
+fn accepted(out: &impl Print) -> io::Result<()> {
     let input = b"files=1\npeptides=1\nfile=0\npeptide=0\nlabel=1\nq=00000000\nrt=41200000\n";
-    text(input, 128);
-    text(input, 87);
-    text(input, 86);
-    text(input, 0);
+    text(out, input, 128)?;
+    text(out, input, 87)?;
+    text(out, input, 86)?;
+    text(out, input, 0)
 }
 
-fn main() {
-    malformed();
-    limits();
-    files();
-    numbers();
-    accepted();
+fn main(rt: HostRuntime) -> io::Result<()> {
+    malformed(&rt)?;
+    limits(&rt)?;
+    files(&rt)?;
+    numbers(&rt)?;
+    accepted(&rt)
 }

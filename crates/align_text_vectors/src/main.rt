@@ -5,27 +5,28 @@
 
 ghost use Rattle.std.specs.Prelude.{◌≡◌, length};
 
-use libc::{STDIN_FILENO, STDOUT_FILENO};
+use std::io;
+use std::io::Read;
 use vectors::Token;
 
 // The longest stored text: one byte more than a text may have.
 const BYTES: usize = 65537;
 
 // Writes the program's answer to a text. No answer is longer than the output.
-fn answer(text: &[u8]) {
+fn answer(out: &impl Print, text: &[u8]) -> io::Result<()> {
     let mut output = [0u8; 8192];
     let n = align_text::written(align_text::align_text(text, &mut output));
-    vectors::write_token(n as u64);
-    io::write_all(STDOUT_FILENO, &output[..n]);
+    vectors::write_token(out, n as u64)?;
+    out.write_all(&output[..n])
 }
 
 // Reads a text of text's length and answers it, and says whether it was there.
-fn replay_text(text: &mut [u8]) -> bool {
-    if io::read_full(STDIN_FILENO, text) < text.len() {
-        return false;
+fn replay_text(out: &impl Print, input: &mut impl Read, text: &mut [u8]) -> io::Result<bool> {
+    if !vectors::read_full(input, text)? {
+        return Ok(false);
     }
-    answer(text);
-    true
+    answer(out, text)?;
+    Ok(true)
 }
 
 // Room for a text. The `ensures` gives only its length.
@@ -36,24 +37,26 @@ fn room() -> [u8; BYTES]
 }
 
 // Answers the next text, and says whether there was one.
-fn replay() -> bool {
-    let Token::Value(length) = vectors::read_token() else {
-        return false;
+fn replay(out: &impl Print, input: &mut impl Read) -> io::Result<bool> {
+    let Token::Value(length) = vectors::read_token(input)? else {
+        return Ok(false);
     };
     let n = length as usize;
     if n > BYTES {
-        return false;
+        return Ok(false);
     }
     let mut text = room();
-    replay_text(&mut text[..n])
+    replay_text(out, input, &mut text[..n])
 }
 
-fn main() {
-    let Token::Value(texts) = vectors::read_token() else {
-        return;
+fn main(rt: HostRuntime) -> io::Result<()> {
+    let mut input = rt.reader();
+    let Token::Value(texts) = vectors::read_token(&mut input)? else {
+        return Ok(());
     };
     let mut left = texts;
-    while left > 0 && replay() {
+    while left > 0 && replay(&rt, &mut input)? {
         left -= 1;
     }
+    Ok(())
 }

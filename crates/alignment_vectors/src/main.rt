@@ -4,6 +4,8 @@
 #![tactic(auto)]
 
 use retention_alignment::AlignAnswer;
+use std::io;
+use std::io::Read;
 use vectors::Token;
 
 // The stored batches are within these.
@@ -15,6 +17,7 @@ const CELLS: usize = 8192;
 
 // Aligns the columns, and writes what the call leaves in the slices.
 fn answer(
+    out: &impl Print,
     file: &[u32],
     peptide: &[u32],
     label: &[i32],
@@ -22,7 +25,7 @@ fn answer(
     rt: &[f32],
     files: usize,
     peptides: usize,
-) {
+) -> io::Result<()> {
     let mut workspace = [0.0f64; CELLS];
     let mut max_rt = [0.0f32; FILES];
     let mut slope = [0.0f32; FILES];
@@ -51,23 +54,25 @@ fn answer(
         &mut aligned,
     );
     match a {
-        AlignAnswer::Refused(n) => vectors::write_token(n as u64),
+        AlignAnswer::Refused(n) => vectors::write_token(out, n as u64),
         AlignAnswer::Accepted => {
-            vectors::write_token(0);
-            vectors::write_first_f32s(&max_rt, files);
-            vectors::write_first_f32s(&slope, files);
-            vectors::write_first_f32s(&intercept, files);
-            vectors::write_first_u32s(&used, files);
-            vectors::write_first_bools(&max_rt_exact, files);
-            vectors::write_first_bools(&slope_exact, files);
-            vectors::write_first_bools(&intercept_exact, files);
-            vectors::write_first_f32s(&aligned, file.len());
+            vectors::write_token(out, 0)?;
+            vectors::write_first_f32s(out, &max_rt, files)?;
+            vectors::write_first_f32s(out, &slope, files)?;
+            vectors::write_first_f32s(out, &intercept, files)?;
+            vectors::write_first_u32s(out, &used, files)?;
+            vectors::write_first_bools(out, &max_rt_exact, files)?;
+            vectors::write_first_bools(out, &slope_exact, files)?;
+            vectors::write_first_bools(out, &intercept_exact, files)?;
+            vectors::write_first_f32s(out, &aligned, file.len())
         }
     }
 }
 
 // Reads the columns of a batch and answers it, and says whether they were there.
 fn replay_columns(
+    out: &impl Print,
+    input: &mut impl Read,
     file: &mut [u32],
     peptide: &mut [u32],
     label: &mut [i32],
@@ -75,40 +80,40 @@ fn replay_columns(
     rt: &mut [f32],
     files: usize,
     peptides: usize,
-) -> bool {
-    if !vectors::read_u32s(file) {
-        return false;
+) -> io::Result<bool> {
+    if !vectors::read_u32s(input, file)? {
+        return Ok(false);
     }
-    if !vectors::read_u32s(peptide) {
-        return false;
+    if !vectors::read_u32s(input, peptide)? {
+        return Ok(false);
     }
-    if !vectors::read_i32s(label) {
-        return false;
+    if !vectors::read_i32s(input, label)? {
+        return Ok(false);
     }
-    if !vectors::read_f32s(q) {
-        return false;
+    if !vectors::read_f32s(input, q)? {
+        return Ok(false);
     }
-    if !vectors::read_f32s(rt) {
-        return false;
+    if !vectors::read_f32s(input, rt)? {
+        return Ok(false);
     }
-    answer(file, peptide, label, q, rt, files, peptides);
-    true
+    answer(out, file, peptide, label, q, rt, files, peptides)?;
+    Ok(true)
 }
 
 // Answers one batch, and says whether there was one.
-fn replay() -> bool {
-    let Token::Value(files) = vectors::read_token() else {
-        return false;
+fn replay(out: &impl Print, input: &mut impl Read) -> io::Result<bool> {
+    let Token::Value(files) = vectors::read_token(input)? else {
+        return Ok(false);
     };
-    let Token::Value(peptides) = vectors::read_token() else {
-        return false;
+    let Token::Value(peptides) = vectors::read_token(input)? else {
+        return Ok(false);
     };
-    let Token::Value(count) = vectors::read_token() else {
-        return false;
+    let Token::Value(count) = vectors::read_token(input)? else {
+        return Ok(false);
     };
     let rows = count as usize;
     if rows > ROWS {
-        return false;
+        return Ok(false);
     }
     let mut file = [0u32; ROWS];
     let mut peptide = [0u32; ROWS];
@@ -116,6 +121,8 @@ fn replay() -> bool {
     let mut q = [0.0f32; ROWS];
     let mut rt = [0.0f32; ROWS];
     replay_columns(
+        out,
+        input,
         &mut file[..rows],
         &mut peptide[..rows],
         &mut label[..rows],
@@ -126,12 +133,14 @@ fn replay() -> bool {
     )
 }
 
-fn main() {
-    let Token::Value(batches) = vectors::read_token() else {
-        return;
+fn main(rt: HostRuntime) -> io::Result<()> {
+    let mut input = rt.reader();
+    let Token::Value(batches) = vectors::read_token(&mut input)? else {
+        return Ok(());
     };
     let mut left = batches;
-    while left > 0 && replay() {
+    while left > 0 && replay(&rt, &mut input)? {
         left -= 1;
     }
+    Ok(())
 }

@@ -10,6 +10,8 @@ use lib.Dec.{lit≤}
 use lib.Ieee.{Float, binary64, add, of_bits, of_int}
 use lib.ListN.{length, length-append, get_or, set, take, drop, replicate, length-take, length-drop, take-append-drop}
 use lib.Seq.{length-take-le, take-nil, take_at, drop_at, drop-append-le, drop-drop}
+use Rattle.mass.specs.Mass.{column_of}
+use Rattle.mass.proofs.Laws.{column_below}
 use Rattle.matrix.specs.Lists.{overwritten}
 use Rattle.embedding.specs.Count.{how_many, range, tallied}
 use Rattle.float.specs.Number.{number, zero64}
@@ -105,6 +107,10 @@ module _ (m : ℕ) (f : ℕ → ℕ) (xs : List ℕ) (row rest : List Float) (i 
       ∙ cell_more cs rest k d (rw (length_tally m (map f (take i xs))) l)
       (le_trans (counter_le m f xs cs i refl k (omega arith) l) (omega arith))
       ∙ ap (λ (t : List ℕ). map number t ++ rest) (tally_next m f xs cs i refl k h e l)
+
+-- the column of a letter is one of 22
+pub column_within : (letter k : ℕ) → k ≡ column_of letter → k < 22
+column_within letter k e = omega (arith, column_below letter)
 
 -- 22 cells that were cleared hold the counts of no letter; the others are as they were
 pub cleared : (old back : List Float) → 22 ≤ length old → back ≡ replicate (length (take 22 old)) zero64

@@ -282,3 +282,17 @@ module _ {at : ℕ} {cells : List Float} {n₀ : ℕ} {places₀ : List ℕ} {va
           ∙ more (nonzero_cells (drop next cells)) values (get_or cells place nan) k;
       count = omega (arith, l.count, ap length here);
     })
+
+-- The same of 22 cells: the lowest digit's place is one of theirs, and there is room for what is left.
+module _ {at : ℕ} {cells : List Float} {n₀ : ℕ} {places₀ : List ℕ} {values₀ : List Float} {places : List ℕ}
+    {values : List Float} {n left : ℕ} (l : Left at cells n₀ places₀ values₀ places values n left)
+    (some : left ≡ 0 → ⊥) (size : length cells ≡ 22) where
+  pub place_below : count_trailing_zeros 32 left < 22
+  place_below =
+      let most : length cells ≤ 32 = omega arith in
+      omega (arith, place_inside l some most)
+
+  pub room_below : n < n₀ + 22
+  room_below =
+      let most : length cells ≤ 32 = omega arith in
+      omega (arith, room l some most)

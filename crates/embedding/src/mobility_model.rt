@@ -182,7 +182,7 @@ fn list_composition(
     requires counts_value { counts.old ≡ replicate 22 zero64 }
     requires in_bounds { (100 ≤ length places.old) × (100 ≤ length values.old) }
     ensures counts_after { counts.new ≡ map number (column_counts letters.now) }
-    ensures fact { let cs = column_counts letters.now in
+    ensures appended { let cs = column_counts letters.now in
         Appended 0 (map number cs ++ map (share (length letters.now)) cs) 0 result
         places.old places.new values.old values.new }
 {

@@ -7,10 +7,11 @@
 mod fits;
 
 use embedding::Model;
+use std::io;
 
-fn main() {
-    fits::calls(Model::Retention, false);
-    fits::calls(Model::Retention, true);
-    fits::calls(Model::Mobility, false);
-    fits::calls(Model::Mobility, true);
+fn main(rt: HostRuntime) -> io::Result<()> {
+    fits::calls(&rt, Model::Retention, false)?;
+    fits::calls(&rt, Model::Retention, true)?;
+    fits::calls(&rt, Model::Mobility, false)?;
+    fits::calls(&rt, Model::Mobility, true)
 }

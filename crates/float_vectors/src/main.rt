@@ -2,6 +2,8 @@
 // a function and has its arguments' patterns, and each line of standard output is the result's.
 #![tactic(auto)]
 
+use std::io;
+use std::io::Read;
 use vectors::{Next, Record};
 
 fn f32_of(v: u64) -> f32 {
@@ -33,19 +35,22 @@ fn answer(r: Record) -> u64 {
 }
 
 // Answers one line, and says whether there was one.
-fn replay() -> bool {
-    let Next::Case(r) = vectors::read_record() else {
-        return false;
+fn replay(out: &impl Print, input: &mut impl Read) -> io::Result<bool> {
+    let Next::Case(r) = vectors::read_record(input)? else {
+        return Ok(false);
     };
-    vectors::write_token(answer(r));
-    true
+    vectors::write_token(out, answer(r))?;
+    Ok(true)
 }
 
-// A proved loop has to end, and nothing says that the input does: so the turns are counted down
-// from a number that no run uses up.
-fn main() {
-    let mut turns = u64::MAX;
-    while turns > 0 && replay() {
-        turns -= 1;
+// A proved loop has to end, and nothing says that the input does: so the turns are counted, up to a number that no run
+// reaches.
+fn main(rt: HostRuntime) -> io::Result<()> {
+    let mut input = rt.reader();
+    for _ in 0..u64::MAX {
+        if !replay(&rt, &mut input)? {
+            break;
+        }
     }
+    Ok(())
 }

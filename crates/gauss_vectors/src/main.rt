@@ -3,23 +3,25 @@
 // that no ridge solves, else 0, the ridge and the solution's cells.
 #![tactic(auto)]
 
-ghost use Rattle.std.specs.Prelude.{◌≡◌, length, ◌+◌, ◌*◌, ◌<◌, ◌≤◌};
+ghost use Rattle.std.specs.Prelude.{◌≡◌, length, IfOk, ◌+◌, ◌*◌, ◌<◌, ◌≤◌};
 
 use gauss::SolveAnswer;
+use std::io;
+use std::io::Read;
 use vectors::Token;
 
 // A number that is at most `most`, or `most` and one more where the next line is none.
-fn number(most: u64) -> u64
+fn number(input: &mut impl Read, most: u64) -> io::Result<u64>
     requires { most < 1000 }
-    ensures { result ≤ most + 1 }
+    ensures { IfOk result (λ n. n ≤ most + 1) }
 {
-    let Token::Value(v) = vectors::read_token() else {
-        return most + 1;
+    let Token::Value(v) = vectors::read_token(input)? else {
+        return Ok(most + 1);
     };
     if most < v {
-        return most + 1;
+        return Ok(most + 1);
     }
-    v
+    Ok(v)
 }
 
 // The cells of n rows of c.
@@ -51,51 +53,53 @@ fn workspace_cells() -> [f64; 10800]
 }
 
 // Writes what a call answered.
-fn report(answer: SolveAnswer, solution: &[f64]) {
+fn report(out: &impl Print, answer: SolveAnswer, solution: &[f64]) -> io::Result<()> {
     match answer {
         SolveAnswer::Solved(ridge) => {
-            vectors::write_token(0);
-            vectors::write_f64(ridge);
-            vectors::write_f64s(solution);
+            vectors::write_token(out, 0)?;
+            vectors::write_f64(out, ridge)?;
+            vectors::write_f64s(out, solution)
         }
-        SolveAnswer::Unsolved => vectors::write_token(9),
-        SolveAnswer::Refused(status) => vectors::write_token(status as u64),
+        SolveAnswer::Unsolved => vectors::write_token(out, 9),
+        SolveAnswer::Refused(status) => vectors::write_token(out, status as u64),
     }
 }
 
 // Answers one system of order n with c right columns, and says whether its cells were all there. The parts are those
 // of the program's arrays.
 fn solve(
+    out: &impl Print,
+    input: &mut impl Read,
     left: &mut [f64],
     right: &mut [f64],
     n: usize,
     c: usize,
     workspace: &mut [f64],
     solution: &mut [f64],
-) -> bool {
-    if !vectors::read_f64s(left) {
-        return false;
+) -> io::Result<bool> {
+    if !vectors::read_f64s(input, left)? {
+        return Ok(false);
     }
-    if !vectors::read_f64s(right) {
-        return false;
+    if !vectors::read_f64s(input, right)? {
+        return Ok(false);
     }
     let answer = gauss::solve(left, right, n, c, workspace, solution);
-    report(answer, solution);
-    true
+    report(out, answer, solution)?;
+    Ok(true)
 }
 
 // Answers the next system, and says whether there was one.
-fn replay() -> bool {
-    let n = number(100) as usize;
-    let c = number(8) as usize;
+fn replay(out: &impl Print, input: &mut impl Read) -> io::Result<bool> {
+    let n = number(input, 100)? as usize;
+    let c = number(input, 8)? as usize;
     if n < 1 {
-        return false;
+        return Ok(false);
     }
     if 100 < n {
-        return false;
+        return Ok(false);
     }
     if 8 < c {
-        return false;
+        return Ok(false);
     }
     let mut left = left_cells();
     let mut right = right_cells();
@@ -104,6 +108,8 @@ fn replay() -> bool {
     let lefts = cells(n, n);
     let outputs = cells(n, c);
     solve(
+        out,
+        input,
         &mut left[..lefts],
         &mut right[..outputs],
         n,
@@ -114,12 +120,14 @@ fn replay() -> bool {
 }
 
 // A proved loop has to end: there are as many turns as the first line says.
-fn main() {
-    let Token::Value(count) = vectors::read_token() else {
-        return;
+fn main(rt: HostRuntime) -> io::Result<()> {
+    let mut input = rt.reader();
+    let Token::Value(count) = vectors::read_token(&mut input)? else {
+        return Ok(());
     };
     let mut left = count;
-    while left > 0 && replay() {
+    while left > 0 && replay(&rt, &mut input)? {
         left -= 1;
     }
+    Ok(())
 }

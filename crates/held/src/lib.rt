@@ -4,6 +4,7 @@
 
 use models::PredictOutcome;
 use regression::FitOutcome;
+use std::io;
 
 // What every cell, every value, every count and every flag holds before a call.
 pub const CELL: f64 = 7.5;
@@ -109,9 +110,9 @@ pub fn changed_model(
 }
 
 // Writes what a call left in a workspace.
-pub fn write_workspace(workspace: &[f64; WORKSPACE]) {
-    vectors::write_token(front_zeros(workspace) as u64);
-    vectors::write_token(changed(0, workspace));
+pub fn write_workspace(out: &impl Print, workspace: &[f64; WORKSPACE]) -> io::Result<()> {
+    vectors::write_token(out, front_zeros(workspace) as u64)?;
+    vectors::write_token(out, changed(0, workspace))
 }
 
 // The number of a fit's outcome.
@@ -124,8 +125,8 @@ fn number(fit: FitOutcome) -> u64 {
 }
 
 // Writes the number of a prediction's outcome, and how many predictions narrowing changed.
-pub fn write_outcome(outcome: PredictOutcome) {
+pub fn write_outcome(out: &impl Print, outcome: PredictOutcome) -> io::Result<()> {
     let fit = outcome.fit;
-    vectors::write_token(number(fit));
-    vectors::write_token(outcome.inexact as u64);
+    vectors::write_token(out, number(fit))?;
+    vectors::write_token(out, outcome.inexact as u64)
 }

@@ -1,7 +1,7 @@
 -- What a call of `fit` and of `predict` answers, and the whole of each slice after it. Definitions only.
 use Rattle.std.specs.Prelude.{◌≡◌, Bool, true, ◌&&◌, List, [], ℕ, leb, ℤ, Float, length, replicate, take}
 use Rattle.std.proofs.Math.Option.{Option, none, some}
-use Rattle.params.specs.Slice.{Held, Change, change, Slice}
+use Rattle.params.specs.Slice.{Held, MutHeld, Change, change, Slice, MutSlice}
 use Rattle.float.specs.Number.{zero64}
 use Rattle.matrix.specs.Lists.{overwritten}
 use Rattle.status.specs.Told.{Told, only, if_accepted, told_for}
@@ -67,20 +67,20 @@ mobility_input peptide label q charge mobility letters offsets masses =
     letters.entry.now offsets.entry.now masses.entry.now []
 
 -- and what is written as it begins and as it returns; `outputs_at` and `predict_at` are for a `requires`
-abbrev pub outputs_at : (beta predicted error : Held Float) → ModelOutputs
+abbrev pub outputs_at : (beta predicted error : MutHeld Float) → ModelOutputs
 outputs_at beta predicted error = record { coefficients = beta.now; predicted = predicted.now; error = error.now }
 
-abbrev pub outputs_of : (beta predicted error : Slice Float) → Change ModelOutputs
+abbrev pub outputs_of : (beta predicted error : MutSlice Float) → Change ModelOutputs
 outputs_of beta predicted error =
     change
     (outputs_at beta.entry predicted.entry error.entry)
     (outputs_at beta.exit predicted.exit error.exit)
 
-abbrev pub predict_at : (workspace beta predicted error : Held Float) → PredictSlices
+abbrev pub predict_at : (workspace beta predicted error : MutHeld Float) → PredictSlices
 predict_at workspace beta predicted error =
     record { workspace = workspace.now; outputs = outputs_at beta predicted error }
 
-abbrev pub predict_slices : (workspace : Slice Float) (outputs : Change ModelOutputs) → Change PredictSlices
+abbrev pub predict_slices : (workspace : MutSlice Float) (outputs : Change ModelOutputs) → Change PredictSlices
 predict_slices workspace outputs =
     change
     (record { workspace = workspace.entry.now; outputs = outputs.entry })

@@ -15,8 +15,10 @@ mod alignment;
 mod runs;
 mod solver;
 
-fn main() {
-    solver::calls();
-    alignment::calls();
-    runs::calls();
+use std::io;
+
+fn main(rt: HostRuntime) -> io::Result<()> {
+    solver::calls(&rt)?;
+    alignment::calls(&rt)?;
+    runs::calls(&rt)
 }

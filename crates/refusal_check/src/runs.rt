@@ -4,23 +4,25 @@ ghost use Rattle.std.specs.Prelude.{◌≤◌};
 
 use held::{CELL, CELLS, COUNT, FLAG, VALUE, VALUES, WORKSPACE};
 use run::RunAnswer;
+use std::io;
 
-fn write_numbers(answer: RunAnswer) {
+fn write_numbers(out: &impl Print, answer: RunAnswer) -> io::Result<()> {
     match answer {
-        RunAnswer::Refused(status) => vectors::write_token(status as u64),
+        RunAnswer::Refused(status) => vectors::write_token(out, status as u64),
         RunAnswer::Ran {
             retention,
             mobility,
         } => {
-            vectors::write_token(0);
-            held::write_outcome(retention);
-            held::write_outcome(mobility);
+            vectors::write_token(out, 0)?;
+            held::write_outcome(out, retention)?;
+            held::write_outcome(out, mobility)
         }
     }
 }
 
 // Writes what a call answers and leaves, whose workspace has so many cells.
 fn run(
+    out: &impl Print,
     file: &[u32],
     peptide: u32,
     label: i32,
@@ -30,7 +32,7 @@ fn run(
     masses: &[f32],
     logs: &[f64],
     cells: usize,
-)
+) -> io::Result<()>
     requires { cells ≤ 15350 }
 {
     let peptides = [peptide];
@@ -83,8 +85,8 @@ fn run(
         &mut mobility_predicted,
         &mut mobility_error,
     );
-    write_numbers(answer);
-    held::write_workspace(&workspace);
+    write_numbers(out, answer)?;
+    held::write_workspace(out, &workspace)?;
     let records = held::changed_records(
         &max_rt,
         &slope,
@@ -101,16 +103,22 @@ fn run(
         &retention_predicted,
         &retention_error,
     );
-    vectors::write_token(held::changed_model(
-        n,
-        &mobility_beta,
-        &mobility_predicted,
-        &mobility_error,
-    ));
+    vectors::write_token(
+        out,
+        held::changed_model(n, &mobility_beta, &mobility_predicted, &mobility_error),
+    )
 }
 
 // A training row, and a table of one peptide of one letter whose offsets are 0 and `end`.
-fn one(file: u32, peptide: u32, files: usize, letter: u8, end: u32, cells: usize)
+fn one(
+    out: &impl Print,
+    file: u32,
+    peptide: u32,
+    files: usize,
+    letter: u8,
+    end: u32,
+    cells: usize,
+) -> io::Result<()>
     requires { cells ≤ 15350 }
 {
     let number = [file];
@@ -119,51 +127,56 @@ fn one(file: u32, peptide: u32, files: usize, letter: u8, end: u32, cells: usize
     let masses = [0.0f32];
     let logs = [0.0f64];
     run(
-        &number, peptide, 1, files, &letters, &offsets, &masses, &logs, cells,
-    );
+        out, &number, peptide, 1, files, &letters, &offsets, &masses, &logs, cells,
+    )
 }
 
 // A training row in file 0 of 1, and a table of two peptides with the offsets 0, b and c.
-fn two(letters: &[u8], b: u32, c: u32) {
+fn two(out: &impl Print, letters: &[u8], b: u32, c: u32) -> io::Result<()> {
     let zero = [0u32];
     let offsets = [0u32, b, c];
     let masses = [0.0f32; 2];
     let logs = [0.0f64; 2];
-    run(&zero, 0, 1, 1, letters, &offsets, &masses, &logs, 15350);
+    run(
+        out, &zero, 0, 1, 1, letters, &offsets, &masses, &logs, 15350,
+    )
 }
 
 // The peptide A, in file 0 of 1.
-fn fitted(label: i32, mass: f32, log: f64, cells: usize)
+fn fitted(out: &impl Print, label: i32, mass: f32, log: f64, cells: usize) -> io::Result<()>
     requires { cells ≤ 15350 }
 {
     let zero = [0u32];
     let offsets = [0u32, 1];
     let masses = [mass];
     let logs = [log];
-    run(&zero, 0, label, 1, b"A", &offsets, &masses, &logs, cells);
+    run(
+        out, &zero, 0, label, 1, b"A", &offsets, &masses, &logs, cells,
+    )
 }
 
 // 0: both fits 0, with just the needed workspace and with more; no training row, so both fits 8; 9 for retention, for
 // mobility, and for both.
-fn accepted() {
+fn accepted(out: &impl Print) -> io::Result<()> {
     let nan = 0.0f32 / 0.0;
-    fitted(1, 0.0, 0.0, 15250);
-    fitted(1, 0.0, 0.0, 15350);
-    fitted(-1, 0.0, 0.0, 15350);
-    fitted(1, 0.0, 0.0 / 0.0, 15350);
-    fitted(1, nan, 0.0, 15350);
-    fitted(1, nan, 0.0 / 0.0, 15350);
+    fitted(out, 1, 0.0, 0.0, 15250)?;
+    fitted(out, 1, 0.0, 0.0, 15350)?;
+    fitted(out, -1, 0.0, 0.0, 15350)?;
+    fitted(out, 1, 0.0, 0.0 / 0.0, 15350)?;
+    fitted(out, 1, nan, 0.0, 15350)?;
+    fitted(out, 1, nan, 0.0 / 0.0, 15350)
 }
 
 // 1: two file numbers, one time; with no file, which is 2 too; no log for a mass.
-fn lengths() {
+fn lengths(out: &impl Print) -> io::Result<()> {
     let zeros = [0u32; 2];
     let offsets = [0u32, 1];
     let masses = [0.0f32];
     let logs = [0.0f64];
-    run(&zeros, 0, 1, 1, b"A", &offsets, &masses, &logs, 15350);
-    run(&zeros, 0, 1, 0, b"A", &offsets, &masses, &logs, 15350);
+    run(out, &zeros, 0, 1, 1, b"A", &offsets, &masses, &logs, 15350)?;
+    run(out, &zeros, 0, 1, 0, b"A", &offsets, &masses, &logs, 15350)?;
     run(
+        out,
         &zeros[..1],
         0,
         1,
@@ -173,45 +186,45 @@ fn lengths() {
         &masses,
         &logs[..0],
         15350,
-    );
+    )
 }
 
 // 2: no file; 4,097 files, for which the room is too short as well. 3: a workspace a cell too short; with offsets past
 // the letters, which is 7 too, and with file 2 of 2, which is 4 too; outputs too short for 5 files; 4,096 files, which
 // are within the limits.
-fn limits() {
-    one(0, 0, 0, b'A', 1, 15350);
-    one(0, 0, 4097, b'A', 1, 15350);
-    one(0, 0, 1, b'A', 1, 15249);
-    one(0, 0, 1, b'A', 2, 15249);
-    one(2, 0, 2, b'A', 1, 15249);
-    one(0, 0, 5, b'A', 1, 15350);
-    one(0, 0, 4096, b'A', 1, 15350);
+fn limits(out: &impl Print) -> io::Result<()> {
+    one(out, 0, 0, 0, b'A', 1, 15350)?;
+    one(out, 0, 0, 4097, b'A', 1, 15350)?;
+    one(out, 0, 0, 1, b'A', 1, 15249)?;
+    one(out, 0, 0, 1, b'A', 2, 15249)?;
+    one(out, 2, 0, 2, b'A', 1, 15249)?;
+    one(out, 0, 0, 5, b'A', 1, 15350)?;
+    one(out, 0, 0, 4096, b'A', 1, 15350)
 }
 
 // 7: the offsets 0, 2, 1; with a lower-case letter, which is 6 too; a peptide of 256 letters.
-fn offsets() {
+fn offsets(out: &impl Print) -> io::Result<()> {
     let long = [65u8; 256];
-    two(b"A", 2, 1);
-    two(b"a", 2, 1);
-    two(&long, 256, 256);
+    two(out, b"A", 2, 1)?;
+    two(out, b"a", 2, 1)?;
+    two(out, &long, 256, 256)
 }
 
 // 6: a lower-case letter; with file 2 of 2, which is 4 too, and with peptide 1 of 1, which is 5 too. 4: file 2 of 2;
 // with peptide 1 of 1. 5: peptide 1 of 1.
-fn numbers() {
-    one(0, 0, 1, b'a', 1, 15350);
-    one(2, 0, 2, b'a', 1, 15350);
-    one(0, 1, 1, b'a', 1, 15350);
-    one(2, 0, 2, b'A', 1, 15350);
-    one(2, 1, 2, b'A', 1, 15350);
-    one(0, 1, 1, b'A', 1, 15350);
+fn numbers(out: &impl Print) -> io::Result<()> {
+    one(out, 0, 0, 1, b'a', 1, 15350)?;
+    one(out, 2, 0, 2, b'a', 1, 15350)?;
+    one(out, 0, 1, 1, b'a', 1, 15350)?;
+    one(out, 2, 0, 2, b'A', 1, 15350)?;
+    one(out, 2, 1, 2, b'A', 1, 15350)?;
+    one(out, 0, 1, 1, b'A', 1, 15350)
 }
 
-pub(crate) fn calls() {
-    accepted();
-    lengths();
-    limits();
-    offsets();
-    numbers();
+pub(crate) fn calls(out: &impl Print) -> io::Result<()> {
+    accepted(out)?;
+    lengths(out)?;
+    limits(out)?;
+    offsets(out)?;
+    numbers(out)
 }

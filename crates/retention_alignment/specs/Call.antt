@@ -1,6 +1,6 @@
 -- A call of `global_alignment`: its status, and what it leaves in every slice. Definitions only.
 use Rattle.std.specs.Prelude.{◌≡◌, Bool, true, ◌&&◌, List, [], ◌∷◌, map, ℕ, ◌*◌, ◌≤◌, leb, ℤ, length, replicate, Float}
-use Rattle.params.specs.Slice.{Held, Change, change, Slice}
+use Rattle.params.specs.Slice.{Held, MutHeld, Change, change, Slice, MutSlice}
 use Rattle.float.specs.Number.{zero64}
 use Rattle.matrix.specs.Lists.{overwritten}
 use Rattle.feature.specs.Feature.{mask, kept}
@@ -47,7 +47,7 @@ input_at file peptide label q rt files peptides =
       peptides = peptides;
     }
 
-abbrev pub slices_at : (workspace : Held Float) (records : FileColumns) (aligned : Held Float) → Slices
+abbrev pub slices_at : (workspace : MutHeld Float) (records : FileColumns) (aligned : MutHeld Float) → Slices
 slices_at workspace records aligned = record { workspace = workspace.now; records = records; aligned = aligned.now }
 
 -- in an `ensures`: what is read as the call begins, and what is written as it begins and as it returns
@@ -56,7 +56,7 @@ abbrev pub input_of : (file peptide : Slice ℕ) (label : Slice ℤ) (q rt : Sli
 input_of file peptide label q rt files peptides =
     input_at file.entry peptide.entry label.entry q.entry rt.entry files peptides
 
-abbrev pub slices_of : (workspace : Slice Float) (records : Change FileColumns) (aligned : Slice Float) → Change Slices
+abbrev pub slices_of : (workspace : MutSlice Float) (records : Change FileColumns) (aligned : MutSlice Float) → Change Slices
 slices_of workspace records aligned =
     change
     (slices_at workspace.entry records.entry aligned.entry)

@@ -1,6 +1,6 @@
 -- A call of `run`: what it is passed, its status, what it answers, and what it leaves in every slice. Definitions only.
 use Rattle.std.specs.Prelude.{◌≡◌, Bool, ◌&&◌, cond, List, [], ◌∷◌, map, ℕ, ◌*◌, max, leb, ℤ, Float, length, replicate}
-use Rattle.params.specs.Slice.{Held, Change, change, Slice}
+use Rattle.params.specs.Slice.{Held, MutHeld, Change, change, Slice, MutSlice}
 use Rattle.float.specs.Number.{zero64}
 use Rattle.matrix.specs.Lists.{overwritten}
 use Rattle.feature.specs.Feature.{Row, rows_from, training}
@@ -73,7 +73,7 @@ input_at file peptide label q rt charge mobility files letters offsets masses lo
       table = table_at letters offsets masses logs;
     }
 
-abbrev pub slices_at : (workspace : Held Float) (records : FileColumns) (aligned : Held Float)
+abbrev pub slices_at : (workspace : MutHeld Float) (records : FileColumns) (aligned : MutHeld Float)
     (retention mobility : ModelOutputs) → Slices
 slices_at workspace records aligned retention mobility =
     record {
@@ -92,7 +92,7 @@ input_of file peptide label q rt charge mobility files letters offsets masses lo
     file.entry peptide.entry label.entry q.entry rt.entry charge.entry mobility.entry files
     letters.entry offsets.entry masses.entry logs.entry
 
-abbrev pub slices_of : (workspace : Slice Float) (records : Change FileColumns) (aligned : Slice Float)
+abbrev pub slices_of : (workspace : MutSlice Float) (records : Change FileColumns) (aligned : MutSlice Float)
     (retention mobility : Change ModelOutputs) → Change Slices
 slices_of workspace records aligned retention mobility =
     change

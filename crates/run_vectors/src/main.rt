@@ -8,6 +8,8 @@
 use models::PredictOutcome;
 use regression::FitOutcome;
 use run::RunAnswer;
+use std::io;
+use std::io::Read;
 use vectors::Token;
 
 // The stored batches are within these.
@@ -24,6 +26,7 @@ const CELLS: usize = regression::MAX_WORKSPACE;
 
 // Writes the fields of the first files' records, and the first rows' aligned times.
 fn write_records(
+    out: &impl Print,
     files: usize,
     rows: usize,
     max_rt: &[f32; FILES],
@@ -34,56 +37,64 @@ fn write_records(
     slope_exact: &[bool; FILES],
     intercept_exact: &[bool; FILES],
     aligned: &[f32; ROWS],
-) {
-    vectors::write_first_f32s(max_rt, files);
-    vectors::write_first_f32s(slope, files);
-    vectors::write_first_f32s(intercept, files);
-    vectors::write_first_u32s(used, files);
-    vectors::write_first_bools(max_rt_exact, files);
-    vectors::write_first_bools(slope_exact, files);
-    vectors::write_first_bools(intercept_exact, files);
-    vectors::write_first_f32s(aligned, rows);
+) -> io::Result<()> {
+    vectors::write_first_f32s(out, max_rt, files)?;
+    vectors::write_first_f32s(out, slope, files)?;
+    vectors::write_first_f32s(out, intercept, files)?;
+    vectors::write_first_u32s(out, used, files)?;
+    vectors::write_first_bools(out, max_rt_exact, files)?;
+    vectors::write_first_bools(out, slope_exact, files)?;
+    vectors::write_first_bools(out, intercept_exact, files)?;
+    vectors::write_first_f32s(out, aligned, rows)
 }
 
 // Writes the status 8, 9 or 0 and the count of predictions that narrowing changed, and with 0 the ridge, r2, n and the
 // coefficients; says whether the fit solved.
-fn write_fit(outcome: PredictOutcome, beta: &[f64]) -> bool {
+fn write_fit(out: &impl Print, outcome: PredictOutcome, beta: &[f64]) -> io::Result<bool> {
     let fit = outcome.fit;
     let inexact = outcome.inexact as u64;
     match fit {
         FitOutcome::NoTrainingRows => {
-            vectors::write_token(8);
-            vectors::write_token(inexact);
-            false
+            vectors::write_token(out, 8)?;
+            vectors::write_token(out, inexact)?;
+            Ok(false)
         }
         FitOutcome::NotSolved => {
-            vectors::write_token(9);
-            vectors::write_token(inexact);
-            false
+            vectors::write_token(out, 9)?;
+            vectors::write_token(out, inexact)?;
+            Ok(false)
         }
         FitOutcome::Solved { ridge, r2, n } => {
-            vectors::write_token(0);
-            vectors::write_token(inexact);
-            vectors::write_f64(ridge);
-            vectors::write_f64(r2);
-            vectors::write_token(n as u64);
-            vectors::write_f64s(beta);
-            true
+            vectors::write_token(out, 0)?;
+            vectors::write_token(out, inexact)?;
+            vectors::write_f64(out, ridge)?;
+            vectors::write_f64(out, r2)?;
+            vectors::write_token(out, n as u64)?;
+            vectors::write_f64s(out, beta)?;
+            Ok(true)
         }
     }
 }
 
 // Writes the first rows of a model's predictions and errors, if it solved.
-fn write_model(solved: bool, predicted: &[f32; ROWS], error: &[f32; ROWS], rows: usize) {
+fn write_model(
+    out: &impl Print,
+    solved: bool,
+    predicted: &[f32; ROWS],
+    error: &[f32; ROWS],
+    rows: usize,
+) -> io::Result<()> {
     if solved {
-        vectors::write_first_f32s(predicted, rows);
-        vectors::write_first_f32s(error, rows);
+        vectors::write_first_f32s(out, predicted, rows)?;
+        vectors::write_first_f32s(out, error, rows)?;
     }
+    Ok(())
 }
 
 // Runs a batch, and writes what the call leaves in the slices. They hold `held` before it, which the answers don't
 // depend on.
 fn answer(
+    out: &impl Print,
     file: &[u32],
     peptide: &[u32],
     label: &[i32],
@@ -97,7 +108,7 @@ fn answer(
     masses: &[f32],
     logs: &[f64],
     held: f32,
-) {
+) -> io::Result<()> {
     let rows = file.len();
     let mut workspace = [float::widen(held); CELLS];
     let mut max_rt = [held; FILES];
@@ -145,13 +156,14 @@ fn answer(
         &mut mobility_error,
     );
     match a {
-        RunAnswer::Refused(status) => vectors::write_token(status as u64),
+        RunAnswer::Refused(status) => vectors::write_token(out, status as u64),
         RunAnswer::Ran {
             retention,
             mobility,
         } => {
-            vectors::write_token(0);
+            vectors::write_token(out, 0)?;
             write_records(
+                out,
                 files,
                 rows,
                 &max_rt,
@@ -162,36 +174,38 @@ fn answer(
                 &slope_exact,
                 &intercept_exact,
                 &aligned,
-            );
-            let r = write_fit(retention, &retention_beta);
-            let m = write_fit(mobility, &mobility_beta);
-            write_model(r, &retention_predicted, &retention_error, rows);
-            write_model(m, &mobility_predicted, &mobility_error, rows);
+            )?;
+            let r = write_fit(out, retention, &retention_beta)?;
+            let m = write_fit(out, mobility, &mobility_beta)?;
+            write_model(out, r, &retention_predicted, &retention_error, rows)?;
+            write_model(out, m, &mobility_predicted, &mobility_error, rows)
         }
     }
 }
 
 // Reads the peptide table, and says whether it was there.
 fn read_table(
+    input: &mut impl Read,
     letters: &mut [u8],
     offsets: &mut [u32],
     masses: &mut [f32],
     logs: &mut [f64],
-) -> bool {
-    if !vectors::read_u32s(offsets) {
-        return false;
+) -> io::Result<bool> {
+    if !vectors::read_u32s(input, offsets)? {
+        return Ok(false);
     }
-    if !vectors::read_u8s(letters) {
-        return false;
+    if !vectors::read_u8s(input, letters)? {
+        return Ok(false);
     }
-    if !vectors::read_f32s(masses) {
-        return false;
+    if !vectors::read_f32s(input, masses)? {
+        return Ok(false);
     }
-    vectors::read_f64s(logs)
+    vectors::read_f64s(input, logs)
 }
 
 // Reads the columns of the rows, and says whether they were there.
 fn read_rows(
+    input: &mut impl Read,
     file: &mut [u32],
     peptide: &mut [u32],
     label: &mut [i32],
@@ -199,30 +213,32 @@ fn read_rows(
     rt: &mut [f32],
     charge: &mut [u8],
     mobility: &mut [f32],
-) -> bool {
-    if !vectors::read_u32s(file) {
-        return false;
+) -> io::Result<bool> {
+    if !vectors::read_u32s(input, file)? {
+        return Ok(false);
     }
-    if !vectors::read_u32s(peptide) {
-        return false;
+    if !vectors::read_u32s(input, peptide)? {
+        return Ok(false);
     }
-    if !vectors::read_i32s(label) {
-        return false;
+    if !vectors::read_i32s(input, label)? {
+        return Ok(false);
     }
-    if !vectors::read_f32s(q) {
-        return false;
+    if !vectors::read_f32s(input, q)? {
+        return Ok(false);
     }
-    if !vectors::read_f32s(rt) {
-        return false;
+    if !vectors::read_f32s(input, rt)? {
+        return Ok(false);
     }
-    if !vectors::read_u8s(charge) {
-        return false;
+    if !vectors::read_u8s(input, charge)? {
+        return Ok(false);
     }
-    vectors::read_f32s(mobility)
+    vectors::read_f32s(input, mobility)
 }
 
 // Reads the rows of a batch into parts of the program's arrays and answers it, and says whether they were there.
 fn replay_rows(
+    out: &impl Print,
+    input: &mut impl Read,
     file: &mut [u32],
     peptide: &mut [u32],
     label: &mut [i32],
@@ -236,18 +252,21 @@ fn replay_rows(
     masses: &[f32],
     logs: &[f64],
     held: f32,
-) -> bool {
-    if !read_rows(file, peptide, label, q, rt, charge, mobility) {
-        return false;
+) -> io::Result<bool> {
+    if !read_rows(input, file, peptide, label, q, rt, charge, mobility)? {
+        return Ok(false);
     }
     answer(
-        file, peptide, label, q, rt, charge, mobility, files, letters, offsets, masses, logs, held,
-    );
-    true
+        out, file, peptide, label, q, rt, charge, mobility, files, letters, offsets, masses, logs,
+        held,
+    )?;
+    Ok(true)
 }
 
 // Reads a batch into parts of the program's arrays and answers it, and says whether it was there.
 fn replay_batch(
+    out: &impl Print,
+    input: &mut impl Read,
     file: &mut [u32],
     peptide: &mut [u32],
     label: &mut [i32],
@@ -261,30 +280,33 @@ fn replay_batch(
     masses: &mut [f32],
     logs: &mut [f64],
     held: f32,
-) -> bool {
-    if !read_table(letters, offsets, masses, logs) {
-        return false;
+) -> io::Result<bool> {
+    if !read_table(input, letters, offsets, masses, logs)? {
+        return Ok(false);
     }
     replay_rows(
-        file, peptide, label, q, rt, charge, mobility, files, letters, offsets, masses, logs, held,
+        out, input, file, peptide, label, q, rt, charge, mobility, files, letters, offsets, masses,
+        logs, held,
     )
 }
 
 // Answers the next batch, and says whether there was one.
-fn replay(held: f32) -> bool {
-    let Token::Value(files) = vectors::read_token() else {
-        return false;
+fn replay(out: &impl Print, input: &mut impl Read, held: f32) -> io::Result<bool> {
+    let Token::Value(files) = vectors::read_token(input)? else {
+        return Ok(false);
     };
-    let Token::Value(peptides) = vectors::read_token() else {
-        return false;
+    let Token::Value(peptides) = vectors::read_token(input)? else {
+        return Ok(false);
     };
-    let Token::Value(letters) = vectors::read_token() else {
-        return false;
+    let Token::Value(letters) = vectors::read_token(input)? else {
+        return Ok(false);
     };
-    let Token::Value(rows) = vectors::read_token() else {
-        return false;
+    let Token::Value(rows) = vectors::read_token(input)? else {
+        return Ok(false);
     };
     replay_sized(
+        out,
+        input,
         files as usize,
         peptides as usize,
         letters as usize,
@@ -295,20 +317,22 @@ fn replay(held: f32) -> bool {
 
 // Answers a batch with these counts, and says whether it was there and within the limits.
 fn replay_sized(
+    out: &impl Print,
+    input: &mut impl Read,
     files: usize,
     peptides: usize,
     letter_count: usize,
     rows: usize,
     held: f32,
-) -> bool {
+) -> io::Result<bool> {
     if peptides > PEPTIDES {
-        return false;
+        return Ok(false);
     }
     if letter_count > LETTERS {
-        return false;
+        return Ok(false);
     }
     if rows > ROWS {
-        return false;
+        return Ok(false);
     }
     let mut file = [0u32; ROWS];
     let mut peptide = [0u32; ROWS];
@@ -322,6 +346,8 @@ fn replay_sized(
     let mut masses = [0.0f32; PEPTIDES];
     let mut logs = [0.0f64; PEPTIDES];
     replay_batch(
+        out,
+        input,
         &mut file[..rows],
         &mut peptide[..rows],
         &mut label[..rows],
@@ -339,12 +365,14 @@ fn replay_sized(
 }
 
 // A proved loop has to end: there are as many turns as the first line says.
-fn main() {
-    let Token::Value(batches) = vectors::read_token() else {
-        return;
+fn main(rt: HostRuntime) -> io::Result<()> {
+    let mut input = rt.reader();
+    let Token::Value(batches) = vectors::read_token(&mut input)? else {
+        return Ok(());
     };
     let mut left = batches;
-    while left > 0 && replay(float::u32_to_f32(vectors::low32(left))) {
+    while left > 0 && replay(&rt, &mut input, float::u32_to_f32(vectors::low32(left)))? {
         left -= 1;
     }
+    Ok(())
 }

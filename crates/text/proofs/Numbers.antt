@@ -138,7 +138,7 @@ plain_sound z s t h =
     let d = decimal_sound (2 ^ 31 - 1) w.0 s w.1 in
     subst (λ (z : ℤ). (mag z < 2 ^ 31) × (s ≡ decimal_z z)) w.2 (omega arith, d.0)
 
-signed_sound : (z : ℤ) (s : List ℕ) → read_signed s ≡ some z → (mag z < 2 ^ 31) × (s ≡ decimal_z z)
+pub signed_sound : (z : ℤ) (s : List ℕ) → read_signed s ≡ some z → (mag z < 2 ^ 31) × (s ≡ decimal_z z)
 unfolding decimal_z
 signed_sound z [] h = plain_sound z [] refl h
 signed_sound z (c ∷ s) h =

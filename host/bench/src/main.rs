@@ -3,7 +3,7 @@
 //!     cargo run --release --offline             all batches; the tables that docs/BENCHMARKS.md holds
 //!     cargo run --release --offline -- small    without the batch of a million rows
 //!
-//! `rt staticlib zorkamai` makes the library; `$SAGE_SRC` says where sage's source is (host/oracle/README.md).
+//! `.ci/staticlib zorkamai` makes the library; `$SAGE_SRC` says where sage's source is (host/oracle/README.md).
 //! Where Debian's packages of rayon and dashmap are installed, this builds and runs `all_cores`, the same bench with
 //! sage's Rust on all cores beside it; a crate that names them would not build where they are not.
 

@@ -6,8 +6,8 @@
 //!     cargo run --release --offline -- one FAMILY SEED    one case again
 //!     cargo run --release --offline -- limits             inputs at the limits, once
 //!
-//! A case is made from a seed of its own, which a failure names. `rt staticlib zorkamai` makes the library,
-//! `rt staticlib regression_export` its steps that add a sample; `$SAGE_SRC` says where sage's source is
+//! A case is made from a seed of its own, which a failure names. `.ci/staticlib zorkamai` makes the library,
+//! `.ci/staticlib regression_export` its steps that add a sample; `$SAGE_SRC` says where sage's source is
 //! (host/oracle/README.md).
 
 mod adapters;

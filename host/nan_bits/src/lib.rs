@@ -1,7 +1,7 @@
 //! Compiled functions that return a float, those of the crate `float` and `regression::predict`, and
 //! NaNs of many payloads and both signs to try them on. To the proofs there is one NaN and it has no
 //! bits, so what the bits of a result are only a test of the compiled code can tell. The flag of the
-//! narrowing is tried on them too. `rt staticlib float_export` makes the library, `cargo test --offline`
+//! narrowing is tried on them too. `.ci/staticlib float_export` makes the library, `cargo test --offline`
 //! tests it.
 
 // Safe where it says so: such a function takes numbers by value, has no `requires` and touches no memory.

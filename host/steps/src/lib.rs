@@ -1,6 +1,6 @@
 //! The two steps of the library that add a sample to the normal equations, compiled: the one that fits use, which
 //! skips zeros, and the one that visits every pair of columns. No entry point: `host/compare` tries them on any rows,
-//! which no batch holds. `rt staticlib regression_export` makes the library.
+//! which no batch holds. `.ci/staticlib regression_export` makes the library.
 
 // A slice is passed as a pointer and a length.
 unsafe extern "C" {

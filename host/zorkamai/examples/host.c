@@ -1,7 +1,7 @@
 /* Aligns six rows of two files, looks records up, fits both models, runs a batch, walks down a column and solves a
  * system.
  *
- *   rt staticlib zorkamai
+ *   .ci/staticlib zorkamai
  *   cc -I host/zorkamai/include host/zorkamai/examples/host.c target/staticlib/libzorkamai.a -lm -o target/host
  *   target/host
  */

@@ -1,6 +1,6 @@
 //! A host with rows and peptides of its own, as sage has: its calls keep their shape.
 //!
-//!     rt staticlib zorkamai && cargo run --example sage
+//!     ../../.ci/staticlib zorkamai && cargo run --example sage
 
 use std::collections::HashMap;
 use zorkamai::adapters::{

@@ -1,5 +1,5 @@
 /* Sage's retention time alignment, its models and its ridge solver, proved to the bit: the functions of
- * libzorkamai.a, which `rt staticlib zorkamai` writes to target/staticlib.
+ * libzorkamai.a, which `.ci/staticlib zorkamai` writes to target/staticlib.
  *
  * A slice is a pointer and the number of elements after it. The pointer is never NULL, also where the
  * number is 0, and a slice that is written overlaps no other. A flag that is handed in is 0 or 1, as C's bool

@@ -20,7 +20,7 @@
 //! ```
 //!
 //! Linking: `build.rs` takes `libzorkamai.a` from `$STATICLIB_DIR` (a whole path), or else from
-//! `target/staticlib` of the repository, where `rt staticlib zorkamai` writes it.
+//! `target/staticlib` of the repository, where `.ci/staticlib zorkamai` writes it.
 
 pub mod adapters;
 mod alignment;

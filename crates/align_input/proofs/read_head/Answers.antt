@@ -6,15 +6,15 @@ use Rattle.align_input.proofs.read_head.Goals as goal
 pub returns-in_default : goal.returns-in_default
 returns-in_default c =
     sym
-    (head_bad1 c.args.input.now (sym c.enum_told-1.given.1 ∙ c.read_decimal_line.ensures))
+    (head_bad1 c.args.input.now c.in_default.ensures)
 
 pub returns-in_default-read_decimal_line : goal.returns-in_default-read_decimal_line
 returns-in_default-read_decimal_line c =
     sym
-    (head_bad2 c.args.input.now _ _ (sym c.files-1.given.1 ∙ c.read_decimal_line.ensures) (sym c.enum_told-in_default-read_decimal_line-1.given.1 ∙ c.read_decimal_line-2.ensures))
+    (head_bad2 c.args.input.now _ _ c.in-Value.ensures c.in_default-read_decimal_line.ensures)
 
 pub returns : goal.returns
 returns c =
     sym
-    (head_whole c.args.input.now _ _ (sym c.files-1.given.1 ∙ c.read_decimal_line.ensures) _ _
-    (sym c.peptides-1.given.1 ∙ c.read_decimal_line-2.ensures))
+    (head_whole c.args.input.now _ _ c.in-Value.ensures _ _
+    c.in-Value-read_decimal_line.ensures)

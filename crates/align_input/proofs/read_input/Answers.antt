@@ -18,18 +18,18 @@ use Rattle.align_input.proofs.read_input.Goals as goal
 -- where the two are the same input, the rows stored are its rows
 module _ (c : Columns) (f p : ℕ) where
   same_rows : (rows : List TextRow) (d : Input) → some (record { files = f; peptides = p; rows = rows }) ≡ some d
-      → stored c 0 rows ≡ stored c 0 d.rows-1
+      → stored c 0 rows ≡ stored c 0 d.rows
   same_rows rows d h =
       let e : record { files = f; peptides = p; rows = rows } ≡ d = cc in
-      ap (λ (x : Input). stored c 0 x.rows-1) e
+      ap (λ (x : Input). stored c 0 x.rows) e
 
 pub returns-then-input-gt-BYTES_MAX : goal.returns-then-input-gt-BYTES_MAX
 returns-then-input-gt-BYTES_MAX c =
     let t = c.args.input.now in
     let e = parse_long t c.if-input-gt-BYTES_MAX.true in
     record {
-      value = ap input_read (sym e);
-      rt_value = λ d h. some_none (parse t) d h e;
+      answer = ap input_read (sym e);
+      columns = λ d h. some_none (parse t) d h e;
     }
 
 pub returns-in_default : goal.returns-in_default
@@ -37,34 +37,33 @@ returns-in_default c =
     let t = c.args.input.now in
     let e =
     parse_bad t c.if-input-gt-BYTES_MAX.false
-    (sym c.enum_told-1.given.1 ∙ c.read_head.ensures) in
+    c.in_default.ensures in
     record {
-      value = ap input_read (sym e);
-      rt_value = λ d h. some_none (parse t) d h e;
+      answer = ap input_read (sym e);
+      columns = λ d h. some_none (parse t) d h e;
     }
 
 pub returns-in_default-read_rows : goal.returns-in_default-read_rows
 returns-in_default-read_rows c =
     let a = c.args in
     let l = c.if-input-gt-BYTES_MAX.false in
-    let told = sym c.files-1.given.1 ∙ c.read_head.ensures in
-    let e = parse_none a.input.now l _ _ _ told (sym c.enum_told-in_default-read_rows-1.given.1 ∙ c.read_rows.ensures.value) in
+    let told = c.in-Head.ensures in
+    let e = parse_none a.input.now l _ _ _ told c.in_default-read_rows.ensures.answer in
     record {
-      value = ap input_read (sym e);
-      rt_value = λ d h. some_none (parse a.input.now) d h e;
+      answer = ap input_read (sym e);
+      columns = λ d h. some_none (parse a.input.now) d h e;
     }
 
 pub returns : goal.returns
 returns c =
     let a = c.args in
     let l = c.if-input-gt-BYTES_MAX.false in
-    let told = sym c.files-1.given.1 ∙ c.read_head.ensures in
-    let f = c.files-1.given.0.0 in
-    let p = c.files-1.given.0.1.0 in
+    let told = c.in-Head.ensures in
+    let f = c.in-Head.files in
+    let p = c.in-Head.peptides in
     let w =
-    rows_counted a.input.now l _ _ _ told c.rows-1.given.0.0
-    (sym c.rows-1.given.1 ∙ c.read_rows.ensures.value) in
+    rows_counted a.input.now l _ _ _ told c.in-Rows.rows c.in-Rows.ensures.answer in
     let e = parse_some a.input.now l _ _ _ told w.0 w.1 in record {
-      value = ap (IR.Read f p) w.2 ∙ ap input_read (sym e);
-      rt_value = λ d h. c.read_rows.ensures.rt_value w.0 w.1 ∙ same_rows (columns a.file-1.now a.peptide-1.now a.label-1.now a.q-1.now a.rt-1.now) f p w.0 d (sym e ∙ h);
+      answer = ap (IR.Read f p) w.2 ∙ ap input_read (sym e);
+      columns = λ d h. c.read_rows.ensures.columns w.0 w.1 ∙ same_rows (columns a.file.now a.peptide.now a.label.now a.q.now a.rt.now) f p w.0 d (sym e ∙ h);
     }

@@ -47,14 +47,14 @@ returns c =
     let n : ℕ = c.args.n in
     let w : ℕ = c.args.n + c.args.c in
     let last : List Float = c.backfill.new.cells in
-    let rows : rows_of w n last ≡ eliminate n c.args.eps (rows_of w n c.args.cells-1.now) =
+    let rows : rows_of w n last ≡ eliminate n c.args.eps (rows_of w n c.args.cells.now) =
     c.backfill.ensures
     ∙ ap (backfill n)
     (c.reduce.ensures ∙ ap (reduce n) (c.echelon.ensures ∙ ap (echelon n) c.fill_zero.ensures)) in
     record {
       rows = rows;
       cells =
-          is_flat w n last (eliminate n c.args.eps (rows_of w n c.args.cells-1.now))
+          is_flat w n last (eliminate n c.args.eps (rows_of w n c.args.cells.now))
           (c.backfill.auto.cells ∙ c.reduce.auto.cells ∙ c.echelon.auto.cells ∙ c.fill_zero.auto.cells ∙ c.requires.count) rows;
       solved = c.left_solved.ensures ∙ ap (left_solved n) rows;
     }

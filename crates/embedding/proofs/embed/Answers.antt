@@ -19,26 +19,26 @@ pub embed-requires : goal.embed-requires
 embed-requires c =
     record {
       letters_len_bound = c.requires.letters_len_bound;
-      in_bounds = subst (λ (m : Model). order_of m ≤ length c.args.row-1.now) c.enum_told-1.given.1 c.requires.model_in_bounds;
+      in_bounds = subst (λ (m : Model). order_of m ≤ length c.args.row.now) c.in-Retention.is c.requires.model_in_bounds;
     }
 
 pub embed-requires-in-Mobility : goal.embed-requires-in-Mobility
 embed-requires-in-Mobility c =
     record {
       letters_len_bound = c.requires.letters_len_bound;
-      in_bounds = subst (λ (m : Model). order_of m ≤ length c.args.row-1.now) c.enum_told-in-Mobility-1.given.1 c.requires.model_in_bounds;
+      in_bounds = subst (λ (m : Model). order_of m ≤ length c.args.row.now) c.in-Mobility.is c.requires.model_in_bounds;
     }
 
 pub returns-in-Retention : goal.returns-in-Retention
 unfolding design
 returns-in-Retention c =
     let a = c.args in
-    designed a.model Retention c.enum_told-1.given.1 a.letters.now
-    a.log a.mass a.charge a.row-1.now _ c.embed.ensures
+    designed a.model Retention c.in-Retention.is a.letters.now
+    a.log a.mass a.charge a.row.now _ c.embed.ensures
 
 pub returns-in-Mobility : goal.returns-in-Mobility
 unfolding design
 returns-in-Mobility c =
     let a = c.args in
-    designed a.model Mobility c.enum_told-in-Mobility-1.given.1 a.letters.now
-    a.log a.mass a.charge a.row-1.now _ c.embed-in-Mobility.ensures
+    designed a.model Mobility c.in-Mobility.is a.letters.now
+    a.log a.mass a.charge a.row.now _ c.embed-in-Mobility.ensures

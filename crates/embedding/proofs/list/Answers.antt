@@ -24,21 +24,21 @@ designed m k e letters log mass charge a =
 
 pub list-requires : goal.list-requires
 list-requires c =
-    let e = c.enum_told-1.given.1 in record {
+    let e = c.in-Retention.is in record {
       letters_len_bound = c.requires.letters_len_bound;
       in_bounds = (
-        subst (λ (m : Model). order_of m ≤ length c.args.places-1.now) e c.requires.model_in_bounds.0,
-        subst (λ (m : Model). order_of m ≤ length c.args.values-1.now) e c.requires.model_in_bounds.1,
+        subst (λ (m : Model). order_of m ≤ length c.args.places.now) e c.requires.model_in_bounds.0,
+        subst (λ (m : Model). order_of m ≤ length c.args.values.now) e c.requires.model_in_bounds.1,
       );
     }
 
 pub list-requires-in-Mobility : goal.list-requires-in-Mobility
 list-requires-in-Mobility c =
-    let e = c.enum_told-in-Mobility-1.given.1 in record {
+    let e = c.in-Mobility.is in record {
       letters_len_bound = c.requires.letters_len_bound;
       in_bounds = (
-        subst (λ (m : Model). order_of m ≤ length c.args.places-1.now) e c.requires.model_in_bounds.0,
-        subst (λ (m : Model). order_of m ≤ length c.args.values-1.now) e c.requires.model_in_bounds.1,
+        subst (λ (m : Model). order_of m ≤ length c.args.places.now) e c.requires.model_in_bounds.0,
+        subst (λ (m : Model). order_of m ≤ length c.args.values.now) e c.requires.model_in_bounds.1,
       );
     }
 
@@ -46,12 +46,12 @@ pub returns-in-Retention : goal.returns-in-Retention
 unfolding design
 returns-in-Retention c =
     let a = c.args in
-    designed a.model Retention c.enum_told-1.given.1
-    a.letters.now a.log a.mass a.charge c.list.ensures
+    let d = designed a.model Retention c.in-Retention.is a.letters.now a.log a.mass a.charge c.list.ensures in
+    record { upper_bound = d.0; nonzeros = d.1 }
 
 pub returns-in-Mobility : goal.returns-in-Mobility
 unfolding design
 returns-in-Mobility c =
     let a = c.args in
-    designed a.model Mobility c.enum_told-in-Mobility-1.given.1
-    a.letters.now a.log a.mass a.charge c.list-in-Mobility.ensures
+    let d = designed a.model Mobility c.in-Mobility.is a.letters.now a.log a.mass a.charge c.list-in-Mobility.ensures in
+    record { upper_bound = d.0; nonzeros = d.1 }

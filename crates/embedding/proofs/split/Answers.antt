@@ -28,21 +28,21 @@ designed m k e letters log mass charge h f a =
 
 pub split-requires : goal.split-requires
 split-requires c =
-    let e = c.enum_told-1.given.1 in record {
-      letters_len_bound = (c.requires.letters_len_bound.0, subst (λ (m : Model). head_of m ≤ length c.args.head-1.now) e c.requires.letters_len_bound.1);
+    let e = c.in-Retention.is in record {
+      letters_len_bound = (c.requires.letters_len_bound.0, subst (λ (m : Model). head_of m ≤ length c.args.head.now) e c.requires.letters_len_bound.1);
       in_bounds = (
-        subst (λ (m : Model). order_of m ≤ length c.args.places-1.now) e c.requires.model_in_bounds.0,
-        subst (λ (m : Model). order_of m ≤ length c.args.values-1.now) e c.requires.model_in_bounds.1,
+        subst (λ (m : Model). order_of m ≤ length c.args.places.now) e c.requires.model_in_bounds.0,
+        subst (λ (m : Model). order_of m ≤ length c.args.values.now) e c.requires.model_in_bounds.1,
       );
     }
 
 pub list-requires : goal.list-requires
 list-requires c =
-    let e = c.enum_told-in-Mobility-1.given.1 in record {
+    let e = c.in-Mobility.is in record {
       letters_len_bound = c.requires.letters_len_bound.0;
       in_bounds = (
-        subst (λ (m : Model). order_of m ≤ length c.args.places-1.now) e c.requires.model_in_bounds.0,
-        subst (λ (m : Model). order_of m ≤ length c.args.values-1.now) e c.requires.model_in_bounds.1,
+        subst (λ (m : Model). order_of m ≤ length c.args.places.now) e c.requires.model_in_bounds.0,
+        subst (λ (m : Model). order_of m ≤ length c.args.values.now) e c.requires.model_in_bounds.1,
       );
     }
 
@@ -50,12 +50,14 @@ pub returns-in-Retention : goal.returns-in-Retention
 unfolding design
 returns-in-Retention c =
     let a = c.args in
-    designed a.model Retention c.enum_told-1.given.1 a.letters.now a.log a.mass a.charge
-    _ c.split.ensures.head_after c.split.ensures.appended
+    let d = designed a.model Retention c.in-Retention.is a.letters.now a.log a.mass a.charge c.split.new.head
+    c.split.ensures.head_after c.split.ensures.appended in
+    record { upper_bound = d.0; head_after = d.1.0; nonzeros = d.1.1 }
 
 pub returns-in-Mobility : goal.returns-in-Mobility
 unfolding design
 returns-in-Mobility c =
     let a = c.args in
-    designed a.model Mobility c.enum_told-in-Mobility-1.given.1 a.letters.now a.log a.mass a.charge
-    _ refl c.list.ensures
+    let d = designed a.model Mobility c.in-Mobility.is a.letters.now a.log a.mass a.charge a.head.now refl
+    c.list.ensures in
+    record { upper_bound = d.0; head_after = d.1.0; nonzeros = d.1.1 }

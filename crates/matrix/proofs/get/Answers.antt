@@ -30,29 +30,30 @@ returns-then-col-cols c =
     (arith, past c.args.cols c.args.row c.args.col c.if-cols-col.false c.ranges.cols.fits c.if-col-cols.true) in
     simp (lt-ltb _ _ c.if-rows-row.false, lt-ltb _ _ c.if-cols-col.false, le-ltb _ _ far)
 
--- past the three tests the place fits 32 bits
-small : (c : goal.Else-col-cols)
-    → place_of c.args.cols c.args.row
-    c.args.col < 2 ^ 32
-small c =
-    within c.args.cols c.args.row c.args.col c.if-cols-col.false c.ranges.cols.fits c.if-col-cols.false
-
 pub overflow_mul-at : goal.overflow_mul-at
-overflow_mul-at c = record { fits = omega (arith, small c) }
+overflow_mul-at c = record {
+  fits = omega (
+    arith,
+    within c.args.cols c.args.row c.args.col c.if-cols-col.false c.ranges.cols.fits c.if-col-cols.false,
+  );
+}
 
 pub overflow_add-at : goal.overflow_add-at
-overflow_add-at c = record { fits = small c }
+overflow_add-at c = record { fits = within c.args.cols c.args.row c.args.col c.if-cols-col.false c.ranges.cols.fits c.if-col-cols.false }
 
 pub overflow_cast-at : goal.overflow_cast-at
-overflow_cast-at c = record { fits = omega (arith, small c) }
+overflow_cast-at c = record {
+  fits = omega (
+    arith,
+    within c.args.cols c.args.row c.args.col c.if-cols-col.false c.ranges.cols.fits c.if-col-cols.false,
+  );
+}
 
 pub returns-then-at-cells : goal.returns-then-at-cells
 returns-then-at-cells c =
-    let e = c.before.before.before in
-    let s = e.before.before.before.before in
-    let near : place_of s.args.cols s.args.row s.args.col < min (length s.args.cells.now) (2 ^ 32) =
-    omega (arith, small e, c.if-at-cells.true) in
-    simp (lt-ltb _ _ e.if-rows-row.false, lt-ltb _ _ e.if-cols-col.false, lt-ltb _ _ near)
+    let near : place_of c.args.cols c.args.row c.args.col < min (length c.args.cells.now) (2 ^ 32) =
+    omega (arith, within c.args.cols c.args.row c.args.col c.if-cols-col.false c.ranges.cols.fits c.if-col-cols.false, c.if-at-cells.true) in
+    simp (lt-ltb _ _ c.if-rows-row.false, lt-ltb _ _ c.if-cols-col.false, lt-ltb _ _ near)
     (ap Value c.canonical64.ensures)
 
 pub returns-else-at-cells : goal.returns-else-at-cells

@@ -28,41 +28,38 @@ pub bounds-cells-b-in-loop-k : goal.bounds-cells-b-in-loop-k
 bounds-cells-b-in-loop-k c = simp length-set (omega arith)
 
 -- the rows as the function begins
-module _ (s : goal.Start invariant_loop decreases_loop)
-    (t : TwoRows s.args.cols s.args.a s.args.b (length s.args.cells.now)) where
+module _ (cells : List Float) (cols a b : ℕ) (t : TwoRows cols a b (length cells)) where
   abbrev old : List (List Float)
-  old = rows_of s.args.cols t.rows s.args.cells.now
+  old = rows_of cols t.rows cells
 
   many : length old ≡ t.rows
-  many = length_rows_of s.args.cols t.rows s.args.cells.now
+  many = length_rows_of cols t.rows cells
 
-  wide : Wide s.args.cols old
-  wide = wide_rows_of s.args.cols t.rows s.args.cells.now (omega (arith, t.count))
+  wide : Wide cols old
+  wide = wide_rows_of cols t.rows cells (omega (arith, t.count))
 
 pub loop-k-preserved : goal.loop-k-preserved
 loop-k-preserved c =
-    let s = c.before in
-    let a = s.args in
+    let a = c.args in
     let taken = c.loop-k-test.true in (
       omega arith,
       c.loop-k.invariant.1,
       c.loop-k.invariant.2,
       simp length-set c.loop-k.invariant.3,
       λ t. rw add-one
-          (swap_suc a.cols t.rows c.loop-k.k t.i t.j a.a a.b c.loop-k.cells (old s t) nan
-          (c.loop-k.invariant.4 t) (wide s t) (many s t) t.first t.second taken),
+          (swap_suc a.cols t.rows c.loop-k.k t.i t.j a.a a.b c.loop-k.cells (old c.args.cells.now c.args.cols c.args.a c.args.b t) nan
+          (c.loop-k.invariant.4 t) (wide c.args.cells.now c.args.cols c.args.a c.args.b t) (many c.args.cells.now c.args.cols c.args.a c.args.b t) t.first t.second taken),
     )
 
 pub returns : goal.returns
 returns c t =
-    let s = c.before in
-    let cols : ℕ = s.args.cols in
-    let rows = old s t in
-    let n : length rows ≡ t.rows = many s t in
+    let cols : ℕ = c.args.cols in
+    let rows = old c.args.cells.now c.args.cols c.args.a c.args.b t in
+    let n : length rows ≡ t.rows = many c.args.cells.now c.args.cols c.args.a c.args.b t in
     let k : c.loop-k.k ≡ cols = omega arith in
     let exchanged_rows : rows_of cols t.rows c.loop-k.cells ≡ swapped t.i t.j rows =
     c.loop-k.invariant.4 t
     ∙ ap (λ (m : ℕ). exchanged m t.i t.j rows) k
-    ∙ exchanged_all cols t.i t.j rows (wide_get_d cols rows t.i (wide s t) (omega (arith, t.first.0)))
-    (wide_get_d cols rows t.j (wide s t) (omega (arith, t.second.0))) in
+    ∙ exchanged_all cols t.i t.j rows (wide_get_d cols rows t.i (wide c.args.cells.now c.args.cols c.args.a c.args.b t) (omega (arith, t.first.0)))
+    (wide_get_d cols rows t.j (wide c.args.cells.now c.args.cols c.args.a c.args.b t) (omega (arith, t.second.0))) in
     is_flat cols t.rows c.loop-k.cells (swapped t.i t.j rows) (c.loop-k.invariant.3 ∙ t.count) exchanged_rows

@@ -39,7 +39,7 @@ loop-p-preserved c =
       rw (add-one l.p)
           (ap (more (drop (suc l.p) places) (drop (suc l.p) values)) c.add_column.ensures
           ∙ sym
-          (ap₂ (λ (ps : List ℕ) (vs : List Float). more ps vs l.acc-1)
+          (ap₂ (λ (ps : List ℕ) (vs : List Float). more ps vs l.acc)
           (drop-cons places l.p 0 (omega arith)) (drop-cons values l.p nan (omega arith)))
           ∙ l.invariant.2),
     )
@@ -51,6 +51,6 @@ pub returns : goal.returns
 returns c =
     let l = c.loop-p in
     let a = c.args in
-    ap (λ (ps : List ℕ). columns_added (rows_of a.four) ps (drop l.p a.values.now) l.acc-1)
+    ap (λ (ps : List ℕ). columns_added (rows_of a.four) ps (drop l.p a.values.now) l.acc)
     (sym (drop_of_length-le a.places.now {i = l.p} (omega arith)))
     ∙ l.invariant.2

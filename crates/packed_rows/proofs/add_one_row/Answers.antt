@@ -13,53 +13,45 @@ use Rattle.packed_rows.proofs.Places.{values_long}
 use Rattle.packed_rows.proofs.Begun.{in_starts, cell_fits, one_gained}
 use Rattle.packed_rows.proofs.add_one_row.Goals as goal
 
--- as many values as places
-many : (s : goal.Start invariant_loop decreases_loop) → length s.args.values.now ≡ length s.args.places.now
-many s = values_long 0 s.requires.0 s.args.places.now s.args.values.now s.requires.1.listed
-
--- the row, once its base is read
-module _ (d : goal.After-base-row invariant_loop decreases_loop) where
-  abbrev s : goal.Start invariant_loop decreases_loop
-  s = d.before.before.before.before.before.before
-
-  fits : (r : ℕ) → s.args.m ≤ r → r < length s.args.places.now
-      → d.base-row.result + get_or s.args.places.now r 0 < length s.args.acc-1.now
-  fits r l h =
-      let a = s.args in
-      let g = s.requires.1 in
-      omega (
-        arith,
-        d.base-row.ensures,
-        cell_fits s.requires.0 a.acc-1.now g.whole a.places.now a.values.now g.listed
-            a.starts.now g.firsts a.m s.requires.2 s.requires.3 r l h,
-      )
-
 pub base-row-requires : goal.base-row-requires
 base-row-requires c =
     let a = c.args in
     let g = c.requires.1 in
-    in_starts c.requires.0 a.acc-1.now g.whole a.places.now a.values.now g.listed a.starts.now
+    in_starts c.requires.0 a.acc.now g.whole a.places.now a.values.now g.listed a.starts.now
     g.firsts a.m c.requires.2 c.requires.3
 
 pub bounds-values-m : goal.bounds-values-m
-bounds-values-m c = let s = s c.before in omega (arith, s.requires.2, many s)
+bounds-values-m c =
+    let a = c.args in
+    omega (arith, c.requires.2, values_long 0 c.requires.0 a.places.now a.values.now c.requires.1.listed)
 
 pub loop-p-init : goal.loop-p-init
-loop-p-init c = (omega arith, omega (arith, (s c.before).pre.2), refl, refl)
+loop-p-init c = (omega arith, omega (arith, c.requires.2), refl, refl)
 
 pub overflow_add-row : goal.overflow_add-row
 overflow_add-row c =
+    let a = c.args in
+    let g = c.requires.1 in
     let l = c.loop-p in
-    let f = fits c.before.before.before.before.before l.p l.invariant.0 (omega arith) in
-    omega (arith, f)
+    let f =
+    cell_fits c.requires.0 a.acc.now g.whole a.places.now a.values.now g.listed a.starts.now g.firsts a.m c.requires.2
+    c.requires.3 l.p l.invariant.0 (omega arith) in
+    omega (arith, c.base-row.ensures, f)
 
 pub bounds-values-p : goal.bounds-values-p
-bounds-values-p c = omega (arith, many (s c.before.before.before.before.before.before))
+bounds-values-p c =
+    let a = c.args in
+    omega (arith, values_long 0 c.requires.0 a.places.now a.values.now c.requires.1.listed)
 
 pub add_cell-requires : goal.add_cell-requires
 add_cell-requires c =
+    let a = c.args in
+    let g = c.requires.1 in
     let l = c.loop-p in
-    omega (arith, l.invariant.2, fits c.before.before.before.before.before.before l.p l.invariant.0 (omega arith))
+    let f =
+    cell_fits c.requires.0 a.acc.now g.whole a.places.now a.values.now g.listed a.starts.now g.firsts a.m c.requires.2
+    c.requires.3 l.p l.invariant.0 (omega arith) in
+    omega (arith, l.invariant.2, c.base-row.ensures, f)
 
 pub loop-p-smaller : goal.loop-p-smaller
 loop-p-smaller c = omega arith
@@ -67,19 +59,18 @@ loop-p-smaller c = omega arith
 pub loop-p-preserved : goal.loop-p-preserved
 loop-p-preserved c =
     let l = c.loop-p in
-    let b = c.before.before.before.before.before.before.before in
-    let a = (s b).args in
+    let a = c.args in
     let places = a.places.now in
     let values = a.values.now in
-    let more = columns_added ((b.base-row.result, get_or values a.m nan) ∷ []) in
-    let h : l.p < length values = omega (arith, many (s b)) in (
+    let more = columns_added ((c.base-row.result, get_or values a.m nan) ∷ []) in
+    let h : l.p < length values = omega (arith, values_long 0 c.requires.0 places values c.requires.1.listed) in (
       omega (arith, l.invariant.0),
       omega arith,
       c.add_cell.auto.acc ∙ l.invariant.2,
       rw (add-one l.p)
           (ap (more (drop (suc l.p) places) (drop (suc l.p) values)) c.add_cell.ensures
           ∙ sym
-          (ap₂ (λ (ps : List ℕ) (vs : List Float). more ps vs l.acc-1)
+          (ap₂ (λ (ps : List ℕ) (vs : List Float). more ps vs l.acc)
           (drop-cons places l.p 0 (omega arith)) (drop-cons values l.p nan h))
           ∙ l.invariant.3),
     )
@@ -90,17 +81,16 @@ shape_of-acc c = c.loop-p.invariant.2
 pub returns : goal.returns
 returns c =
     let l = c.loop-p in
-    let b = c.before.before.before in
-    let a = (s b).args in
+    let a = c.args in
     let places = a.places.now in
     let values = a.values.now in
     let row : ℕ → List (ℕ × Float) = λ k. (k, get_or values a.m nan) ∷ [] in
     λ ext g h.
-    subst (Gained ext _ _ a.acc-1.now)
+    subst (Gained ext _ _ a.acc.now)
     (sym
-    (ap (λ (ps : List ℕ). columns_added (row b.base-row.result) ps (drop l.p values) l.acc-1)
+    (ap (λ (ps : List ℕ). columns_added (row c.base-row.result) ps (drop l.p values) l.acc)
     (sym (drop_of_length-le places {i = l.p} (omega arith)))
     ∙ l.invariant.3
-    ∙ ap (λ (k : ℕ). columns_added (row k) (drop a.m places) (drop a.m values) a.acc-1.now) b.base-row.ensures))
-    (one_gained ext a.acc-1.now g.whole places values g.listed a.starts.now g.firsts a.m
-    (s b).requires.2 h)
+    ∙ ap (λ (k : ℕ). columns_added (row k) (drop a.m places) (drop a.m values) a.acc.now) c.base-row.ensures))
+    (one_gained ext a.acc.now g.whole places values g.listed a.starts.now g.firsts a.m
+    c.requires.2 h)

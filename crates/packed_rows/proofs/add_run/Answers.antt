@@ -7,7 +7,7 @@ pub returns-then-values-eq4 : goal.returns-then-values-eq4
 returns-then-values-eq4 c =
     let a = c.args in
     let v = a.values.now in
-    let l = a.acc-1.now in
+    let l = a.acc.now in
     let two = run_first a.at a.x v l c.add_two.new.acc (omega (arith, c.requires.0.four))
     c.add_two.ensures in
     let four =
@@ -20,11 +20,11 @@ pub returns-then-values-eq6 : goal.returns-then-values-eq6
 returns-then-values-eq6 c =
     let a = c.args in
     let v = a.values.now in
-    let l = a.acc-1.now in
-    let two = run_first a.at a.x v l c.add_two.last.0 (omega (arith, c.requires.0.four))
+    let l = a.acc.now in
+    let two = run_first a.at a.x v l c.add_two.new.acc (omega (arith, c.requires.0.four))
     c.add_two.ensures in
     let four =
-    run_more a.at a.x v l 2 c.add_two.last.0 c.add_two-2.new.acc (omega
+    run_more a.at a.x v l 2 c.add_two.new.acc c.add_two-2.new.acc (omega
     (arith, c.requires.0.four, c.requires.0.even))
     c.add_two-2.ensures two in
     let six =
@@ -37,15 +37,15 @@ pub returns : goal.returns
 returns c =
     let a = c.args in
     let v = a.values.now in
-    let l = a.acc-1.now in
-    let two = run_first a.at a.x v l c.add_two.last.0 (omega (arith, c.requires.0.four))
+    let l = a.acc.now in
+    let two = run_first a.at a.x v l c.add_two.new.acc (omega (arith, c.requires.0.four))
     c.add_two.ensures in
     let four =
-    run_more a.at a.x v l 2 c.add_two.last.0 c.add_two-2.last.0 (omega
+    run_more a.at a.x v l 2 c.add_two.new.acc c.add_two-2.new.acc (omega
     (arith, c.requires.0.four, c.requires.0.even))
     c.add_two-2.ensures two in
     let six =
-    run_more a.at a.x v l 4 c.add_two-2.last.0 c.add_two-3.new.acc (omega
+    run_more a.at a.x v l 4 c.add_two-2.new.acc c.add_two-3.new.acc (omega
     (arith, c.requires.0.four, c.requires.0.even))
     c.add_two-3.ensures four in
     let eight =

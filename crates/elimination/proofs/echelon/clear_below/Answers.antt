@@ -6,7 +6,6 @@ use Prim.Native.Nat.{ℕ, suc, ◌+◌, ◌-◌, ◌*◌, ◌≤◌, ◌<◌}
 use native.Mathlib.Omega.{arith}
 use native.Mathlib.Numerals.{add-one}
 use lib.ListN.{length, take, drop, length-drop}
-use lib.Seq.{length-take-le}
 use lib.Ieee.{Float}
 use borrow.Rule.Slice.PartMut.{put_mid, same_len_mid}
 use Rattle.matrix.specs.Rows.{rows_of}
@@ -15,7 +14,7 @@ use Rattle.elimination.specs.Rows.{row_of}
 use Rattle.elimination.specs.Elimination.{cleared, clear_below}
 use Rattle.elimination.proofs.Parts.{rest, put_rest}
 use Rattle.elimination.proofs.Rows.{next_start, copied_row, rows_below}
-use Rattle.elimination.proofs.Shape.{inside}
+use Rattle.elimination.proofs.Shape.{inside_at, copy_length}
 use Rattle.elimination.proofs.echelon.clear_below.Goals as goal
 
 -- the cells of the rows after row h
@@ -45,73 +44,52 @@ put_below n w h k e cells pivot part lt l ee here len r =
     ∙ rw at (rows_below w n (suc h) cells part lt l)
     ∙ ap {B = List (List Float)} (λ t. take (suc h) (rows_of w n cells) ++ t) new
 
--- where row h ends, as the function begins
-row_within : (s : goal.Start)
-    → let a = s.args in (a.start + a.w ≤ length a.cells-1.now) × (length a.cells-1.now ≤ 10800)
-row_within s = let e = inside s.requires.0 s.args.h s.requires.1 in (omega (arith, e.0, s.requires.2), e.1)
-
--- row h's copy: its first w cells are the row
-module _ (c : goal.After-row_copy-pivot) where
-  abbrev begin : goal.Start
-  begin = c.before.before.before.before
-
-  copied : take begin.args.w c.row_copy-pivot.result
-      ≡ row_of (rows_of begin.args.w begin.args.n begin.args.cells-1.now) begin.args.h
-  copied =
-      copied_row begin.args.w begin.args.n begin.args.h begin.args.start begin.args.cells-1.now
-      begin.requires.1 begin.requires.0.count begin.requires.2 c.row_copy-pivot.result c.row_copy-pivot.ensures.0
-
-  own_length : length (take begin.args.w c.row_copy-pivot.result) ≡ begin.args.w
-  own_length =
-      length-take-le begin.args.w c.row_copy-pivot.result
-      (omega (arith, begin.requires.0.wide, c.row_copy-pivot.ensures.1))
-
 pub overflow_add-end : goal.overflow_add-end
-overflow_add-end c = omega (arith, row_within c.before)
+overflow_add-end c = omega (arith, inside_at c.requires.0 c.args.h c.args.start c.requires.1 c.requires.2)
 
 pub offset_bounds-cells-start : goal.offset_bounds-cells-start
-offset_bounds-cells-start c = omega (arith, row_within c.before)
+offset_bounds-cells-start c = omega (arith, inside_at c.requires.0 c.args.h c.args.start c.requires.1 c.requires.2)
 
 pub slice_bounds-row_copy-end : goal.slice_bounds-row_copy-end
-slice_bounds-row_copy-end c = omega (arith, row_within c.before.before)
+slice_bounds-row_copy-end c = omega (arith, inside_at c.requires.0 c.args.h c.args.start c.requires.1 c.requires.2)
 
 pub offset_bounds-cells-end : goal.offset_bounds-cells-end
-offset_bounds-cells-end c = omega (arith, row_within (begin c))
+offset_bounds-cells-end c = omega (arith, inside_at c.requires.0 c.args.h c.args.start c.requires.1 c.requires.2)
 
 pub slice_bounds-clear_rows-count : goal.slice_bounds-clear_rows-count
-slice_bounds-clear_rows-count c = omega (arith, row_within (begin c))
+slice_bounds-clear_rows-count c = omega (arith, inside_at c.requires.0 c.args.h c.args.start c.requires.1 c.requires.2)
 
 pub slice_bounds-clear_rows-start : goal.slice_bounds-clear_rows-start
-slice_bounds-clear_rows-start c = omega (arith, row_within (begin c))
+slice_bounds-clear_rows-start c = omega (arith, inside_at c.requires.0 c.args.h c.args.start c.requires.1 c.requires.2)
 
 pub slice_bounds-clear_rows-end-2 : goal.slice_bounds-clear_rows-end-2
-slice_bounds-clear_rows-end-2 c = sym (own_length c.before.before)
+slice_bounds-clear_rows-end-2 c =
+    sym (copy_length c.args.w c.row_copy-pivot.result c.requires.0.wide c.row_copy-pivot.ensures.1)
 
 pub clear_rows-requires : goal.clear_rows-requires
 clear_rows-requires c =
-    let r = c.before.before in
-    let s = begin r in
-    let a = s.args in
-    let e : ℕ = a.start + a.w in (
-      ap length (rest e a.cells-1.now)
-          ∙ length-drop e a.cells-1.now
-          ∙ left_over a.n a.h a.w (length a.cells-1.now) e s.requires.1 s.requires.0.count
-          (next_start a.start a.h a.w s.requires.2)
-          ∙ ap (λ (k : ℕ). (a.n - a.h - 1) * k) (sym (own_length r)),
-      omega (arith, own_length r, s.requires.3, s.requires.0.left),
+    let a = c.args in
+    let e : ℕ = a.start + a.w in
+    let own = copy_length a.w c.row_copy-pivot.result c.requires.0.wide c.row_copy-pivot.ensures.1 in (
+      ap length (rest e a.cells.now)
+          ∙ length-drop e a.cells.now
+          ∙ left_over a.n a.h a.w (length a.cells.now) e c.requires.1 c.requires.0.count
+          (next_start a.start a.h a.w c.requires.2)
+          ∙ ap (λ (k : ℕ). (a.n - a.h - 1) * k) (sym own),
+      omega (arith, own, c.requires.3, c.requires.0.left),
     )
 
 pub shape_of-cells : goal.shape_of-cells
 shape_of-cells c =
-    let a = (begin c.before.before.before).args in
-    same_len_mid (a.start + a.w) (length a.cells-1.now - (a.start + a.w)) a.cells-1.now
+    let a = c.args in
+    same_len_mid (a.start + a.w) (length a.cells.now - (a.start + a.w)) a.cells.now
     c.clear_rows.new.cells c.clear_rows.auto.cells
 
 pub returns : goal.returns
 returns c =
-    let r = c.before.before.before in
-    let s = begin r in
-    let a = s.args in
-    put_below a.n a.w a.h a.k (a.start + a.w) a.cells-1.now r.row_copy-pivot.result
-    c.clear_rows.new.cells s.requires.1 s.requires.0.count (next_start a.start a.h a.w s.requires.2)
-    (copied r) (own_length r) c.clear_rows.ensures
+    let a = c.args in
+    put_below a.n a.w a.h a.k (a.start + a.w) a.cells.now c.row_copy-pivot.result
+    c.clear_rows.new.cells c.requires.1 c.requires.0.count (next_start a.start a.h a.w c.requires.2)
+    (copied_row a.w a.n a.h a.start a.cells.now c.requires.1 c.requires.0.count c.requires.2
+    c.row_copy-pivot.result c.row_copy-pivot.ensures.0)
+    (copy_length a.w c.row_copy-pivot.result c.requires.0.wide c.row_copy-pivot.ensures.1) c.clear_rows.ensures

@@ -16,7 +16,7 @@ use Rattle.elimination.specs.Rows.{row_of}
 use Rattle.elimination.specs.Elimination.{cell, pivot_row, clear_below, column_eliminated, echelon_from}
 use Rattle.elimination.proofs.Elimination.{pivot_within, column_passed, column_cleared}
 use Rattle.elimination.proofs.Rows.{next_start}
-use Rattle.elimination.proofs.Shape.{inside, shape_kept}
+use Rattle.elimination.proofs.Shape.{inside, inside_at, shape_kept}
 use borrow.Author.Rules.{rules}
 use Rattle.elimination.proofs.echelon.echelon.Goals as goal
 
@@ -61,10 +61,20 @@ swapped_rows w n h i cells lh li e =
     ∙ rows_of_flat w (swapped h i rows)
     (wide_swapped w h i rows (wide_rows_of w n cells (omega arith)) (omega arith) (omega arith))
 
+-- the pivot row that was found is a row
+pivot_place : (n w h k p : ℕ) (cells : List Float) → k < n → h ≤ n → p ≡ pivot_row h k (rows_of w n cells) → p < n
+pivot_place n w h k p cells lk lh e = let r = pivot_row_lem n w h k cells lk lh in omega (arith, r, e)
+
+-- row h and the pivot row p, by their starts
+abbrev two_rows : (n w h p a b : ℕ) (cells : List Float) → length cells ≡ n * w → h < n → a ≡ h * w → p < n → b ≡ p * w
+    → TwoRows w a b (length cells)
+two_rows n w h p a b cells e lh ea lp eb =
+    record { rows = n; i = h; j = p; count = e; first = (lh, ea); second = (lp, eb); }
+
 pub loop-k-init : goal.loop-k-init
 loop-k-init c =
     let a = c.args in
-    let rows : List (List Float) = rows_of a.w a.n a.cells-1.now in (
+    let rows : List (List Float) = rows_of a.w a.n a.cells.now in (
       search rules,
       sym (zero-mul _),
       search rules,
@@ -76,102 +86,68 @@ pub pivot-i-requires : goal.pivot-i-requires
 pivot-i-requires c =
     (shape_kept c.requires c.loop-k.invariant.3, omega arith, c.loop-k.invariant.1, c.loop-k-test.true)
 
--- the pivot row is a row, and ends within the cells
-module _ (c : goal.After-pivot-i invariant_loop decreases_loop) where
-  abbrev turn : goal.At-loop-k invariant_loop decreases_loop
-  turn = c.before.before.before
-
-  abbrev begin : goal.Start invariant_loop decreases_loop
-  begin = turn.before.before
-
-  row : c.pivot-i.result < begin.args.n
-  row =
-      let a = begin.args in
-      let l = turn.loop-k in
-      let p = pivot_row_lem a.n a.w l.h l.k l.cells-1 c.loop-k-test.true (omega arith) in
-      omega (arith, c.pivot-i.ensures)
-
-  within : (c.pivot-i.result * begin.args.w + begin.args.w ≤ length begin.args.cells-1.now)
-      × (length begin.args.cells-1.now ≤ 10800)
-  within = inside begin.requires c.pivot-i.result row
-
 pub cell_count-at_i-requires : goal.cell_count-at_i-requires
 cell_count-at_i-requires c =
-    let b = (begin c).requires in (omega (arith, row c, b.order), omega (arith, b.wide), omega (arith, within c))
+    let row = pivot_place c.args.n c.args.w c.loop-k.h c.loop-k.k c.pivot-i.result c.loop-k.cells c.loop-k-test.true (omega arith) c.pivot-i.ensures in
+    let within = inside c.requires c.pivot-i.result row in
+    (omega (arith, row, c.requires.order), omega (arith, c.requires.wide), omega (arith, within))
 
 pub overflow_add-p : goal.overflow_add-p
-overflow_add-p c = omega (arith, within c.before, c.cell_count-at_i.ensures)
+overflow_add-p c =
+    let row = pivot_place c.args.n c.args.w c.loop-k.h c.loop-k.k c.pivot-i.result c.loop-k.cells c.loop-k-test.true (omega arith) c.pivot-i.ensures in
+    omega (arith, inside c.requires c.pivot-i.result row, c.cell_count-at_i.ensures)
 
 pub offset_bounds-cells-p : goal.offset_bounds-cells-p
-offset_bounds-cells-p c = omega (arith, within c.before, c.cell_count-at_i.ensures)
+offset_bounds-cells-p c =
+    let row = pivot_place c.args.n c.args.w c.loop-k.h c.loop-k.k c.pivot-i.result c.loop-k.cells c.loop-k-test.true (omega arith) c.pivot-i.ensures in
+    omega (arith, inside c.requires c.pivot-i.result row, c.cell_count-at_i.ensures)
 
 pub bounds-cells-p : goal.bounds-cells-p
 bounds-cells-p c =
-    let p = c.before.before in
-    omega (arith, within p, c.cell_count-at_i.ensures, (begin p).requires.left)
+    let row = pivot_place c.args.n c.args.w c.loop-k.h c.loop-k.k c.pivot-i.result c.loop-k.cells c.loop-k-test.true (omega arith) c.pivot-i.ensures in
+    omega (arith, inside c.requires c.pivot-i.result row, c.cell_count-at_i.ensures, c.requires.left)
 
 pub overflow_add-k : goal.overflow_add-k
-overflow_add-k c = omega (arith, (begin c.before.before.before).pre.order)
+overflow_add-k c = omega (arith, c.requires.order)
 
 pub loop-k-smaller-then-cells-p : goal.loop-k-smaller-then-cells-p
 loop-k-smaller-then-cells-p c = omega arith
 
 pub loop-k-preserved-then-cells-p : goal.loop-k-preserved-then-cells-p
 loop-k-preserved-then-cells-p c =
-    let p = c.before in
-    let l = (turn p).loop-k in
-    let a = (begin p).args in
-    let t : l.k < a.n = p.loop-k-test.true in (
+    let l = c.loop-k in
+    let a = c.args in
+    let t : l.k < a.n = c.loop-k-test.true in (
       omega arith,
-      l.inv.1,
+      l.invariant.1,
       omega arith,
-      l.inv.3,
-      passed a.n a.w l.h l.k p.pivot-i.result c.cell_count-at_i.result l.cells-1 t (omega arith)
-          (begin p).requires.left p.pivot-i.ensures c.cell_count-at_i.ensures c.if-cells-p.true
-          ∙ l.inv.4,
+      l.invariant.3,
+      passed a.n a.w l.h l.k c.pivot-i.result c.cell_count-at_i.result l.cells t (omega arith)
+          c.requires.left c.pivot-i.ensures c.cell_count-at_i.ensures c.if-cells-p.true
+          ∙ l.invariant.4,
     )
 
--- row h and the pivot row, by their starts
-abbrev two_rows : (c : goal.After-cell_count-at_i invariant_loop decreases_loop)
-    → let l = (turn c.before).loop-k in
-    TwoRows (begin c.before).args.w l.at-h c.cell_count-at_i.result (length l.cells-1)
-two_rows c =
-    let p = c.before in
-    let l = (turn p).loop-k in
-    record {
-      rows = (begin p).args.n;
-      i = l.h;
-      j = p.pivot-i.result;
-      count = l.inv.3 ∙ (begin p).requires.count;
-      first = (omega (arith, p.loop-k-test.true), l.inv.1);
-      second = (row p, c.cell_count-at_i.ensures);
-    }
-
 pub swap_rows_at-requires : goal.swap_rows_at-requires
-swap_rows_at-requires c = two_rows c.before.before.before
+swap_rows_at-requires c =
+    let row = pivot_place c.args.n c.args.w c.loop-k.h c.loop-k.k c.pivot-i.result c.loop-k.cells c.loop-k-test.true (omega arith) c.pivot-i.ensures in
+    two_rows c.args.n c.args.w c.loop-k.h c.pivot-i.result c.loop-k.at_h c.cell_count-at_i.result c.loop-k.cells
+    (c.loop-k.invariant.3 ∙ c.requires.count) (omega (arith, c.loop-k-test.true)) c.loop-k.invariant.1
+    row c.cell_count-at_i.ensures
 
 pub clear_below-requires : goal.clear_below-requires
 clear_below-requires c =
-    let p = c.before.before.before.before.before in
-    let l = (turn p).loop-k in
-    let t : l.k < (begin p).args.n = p.loop-k-test.true in
-    (shape_kept (begin p).requires (c.swap_rows_at.auto.cells ∙ l.inv.3), omega arith, l.inv.1, t)
-
--- after the column is cleared: where the pivot row was found
-abbrev found_at : goal.After-slice_known-in-loop-k-3-1 invariant_loop decreases_loop → goal.After-pivot-i invariant_loop decreases_loop
-found_at c = c.before.before.before.before.before.before.before.before.before.before.before
+    (shape_kept c.requires (c.swap_rows_at.auto.cells ∙ c.loop-k.invariant.3), omega arith, c.loop-k.invariant.1, c.loop-k-test.true)
 
 pub overflow_add-at_h : goal.overflow_add-at_h
 overflow_add-at_h c =
-    let p = found_at c in
-    let e = inside (begin p).pre (turn p).loop-k.h (omega (arith, p.loop-k-test.taken)) in
-    omega (arith, (turn p).loop-k.inv.1)
+    let e = inside_at c.requires c.loop-k.h c.loop-k.at_h (omega (arith, c.loop-k-test.true)) c.loop-k.invariant.1 in
+    omega arith
 
 pub overflow_add-h : goal.overflow_add-h
-overflow_add-h c = omega (arith, (begin (found_at c)).pre.order)
+overflow_add-h c = omega (arith, c.requires.order)
 
 pub overflow_add-k-in-loop-k : goal.overflow_add-k-in-loop-k
-overflow_add-k-in-loop-k c = omega (arith, (begin (found_at c)).pre.order)
+overflow_add-k-in-loop-k c = omega (arith, c.requires.order)
 
 pub loop-k-smaller : goal.loop-k-smaller
 loop-k-smaller c = omega arith
@@ -179,28 +155,29 @@ loop-k-smaller c = omega arith
 pub loop-k-preserved : goal.loop-k-preserved
 loop-k-preserved c =
     let b = c.clear_below in
-    let n = c.before.before.before.before.before.before.before.before.before.before in
     let x = c.swap_rows_at in
-    let p = found_at c in
-    let l = (turn p).loop-k in
-    let s = begin p in
-    let a = s.args in
-    let t : l.k < a.n = p.loop-k-test.taken in
-    let i : ℕ = p.pivot-i.result in
-    let old : List (List Float) = rows_of a.w a.n l.cells-1 in
-    let exchanged : rows_of a.w a.n x.new.0 ≡ swapped l.h i old =
-    ap (rows_of a.w a.n) (x.ensures (two_rows n))
-    ∙ swapped_rows a.w a.n l.h i l.cells-1 (omega arith) (row p) (l.inv.3 ∙ s.requires.count) in
-    let rows : rows_of a.w a.n b.new.0 ≡ clear_below l.h l.k (swapped l.h i old) =
+    let l = c.loop-k in
+    let a = c.args in
+    let t : l.k < a.n = c.loop-k-test.true in
+    let i : ℕ = c.pivot-i.result in
+    let old : List (List Float) = rows_of a.w a.n l.cells in
+    let row = pivot_place a.n a.w l.h l.k i l.cells t (omega arith) c.pivot-i.ensures in
+    let two =
+        two_rows a.n a.w l.h i l.at_h c.cell_count-at_i.result l.cells (l.invariant.3 ∙ c.requires.count)
+        (omega (arith, t)) l.invariant.1 row c.cell_count-at_i.ensures in
+    let exchanged : rows_of a.w a.n x.new.cells ≡ swapped l.h i old =
+    ap (rows_of a.w a.n) (x.ensures two)
+    ∙ swapped_rows a.w a.n l.h i l.cells (omega arith) row (l.invariant.3 ∙ c.requires.count) in
+    let rows : rows_of a.w a.n b.new.cells ≡ clear_below l.h l.k (swapped l.h i old) =
     b.ensures ∙ ap (clear_below l.h l.k) exchanged in (
       omega arith,
-      next_start l.at-h l.h a.w l.inv.1,
+      next_start l.at_h l.h a.w l.invariant.1,
       omega arith,
-      b.auto.0 ∙ x.auto.0 ∙ l.inv.3,
-      found a.n a.w l.h l.k i n.cell_count-at_i.result l.cells-1 t (omega arith) s.requires.left
-          p.pivot-i.ensures n.cell_count-at_i.ensures b.new.0
+      b.auto.cells ∙ x.auto.cells ∙ l.invariant.3,
+      found a.n a.w l.h l.k i c.cell_count-at_i.result l.cells t (omega arith) c.requires.left
+          c.pivot-i.ensures c.cell_count-at_i.ensures b.new.cells
           c.if-cells-p.false rows
-          ∙ l.inv.4,
+          ∙ l.invariant.4,
     )
 
 pub shape_of-cells : goal.shape_of-cells

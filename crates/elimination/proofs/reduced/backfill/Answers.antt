@@ -22,14 +22,10 @@ row_used n i rows new h e =
     let one : suc (i - 1) ≡ i = omega arith in
     ap (backfill_from n (i - 1)) e ∙ ap (λ (m : ℕ). backfill_from n m rows) one
 
--- where the function begins
-abbrev start : goal.At-loop-i invariant_loop decreases_loop → goal.Start invariant_loop decreases_loop
-start l = l.before.before.before.before
-
 pub loop-i-init : goal.loop-i-init
 loop-i-init c =
     let a = c.args in
-    let cells = a.cells-1.now in (
+    let cells = a.cells.now in (
       le_refl a.n,
       c.requires.count,
       refl,
@@ -37,37 +33,27 @@ loop-i-init c =
       c.plain_rows-plain.ensures,
     )
 
--- the row above starts a row's length before
-above : (c : goal.In-loop-i invariant_loop decreases_loop)
-    → let l = c.loop-i in let w = (start c.before).args.w in
-    (w ≤ l.at) × (l.at - w ≡ (l.i - 1) * w)
-above c =
-    let l = c.loop-i in
-    previous_start l.at l.i (start c.before).args.w c.loop-i-test.true l.invariant.1
-
 pub overflow_sub-at : goal.overflow_sub-at
-overflow_sub-at c = omega (arith, (above c).0)
+overflow_sub-at c = omega (arith, (previous_start c.loop-i.at c.loop-i.i c.args.w c.loop-i-test.true c.loop-i.invariant.1).0)
 
 pub clear_above-requires : goal.clear_above-requires
 clear_above-requires c =
-    let t = c.before.before in
-    let l = t.before in
-    (shape_kept (start l).requires l.loop-i.invariant.2, omega arith, (above t).1, l.loop-i.invariant.4)
+    let l = c.loop-i in
+    (shape_kept c.requires l.invariant.2, omega arith, (previous_start l.at l.i c.args.w c.loop-i-test.true l.invariant.1).1, l.invariant.4)
 
 pub loop-i-preserved : goal.loop-i-preserved
 loop-i-preserved c =
-    let t = c.before.before.before.before.before in
-    let l = t.before in
-    let a = (start l).args in
-    let rows = rows_of a.w a.n l.loop-i.cells-1 in (
+    let l = c.loop-i in
+    let a = c.args in
+    let rows = rows_of a.w a.n l.cells in (
       omega arith,
-      (above t).1,
-      c.Clear-above.auto.0 ∙ l.loop-i.invariant.2,
-      row_used a.n l.loop-i.i rows (rows_of a.w a.n c.Clear-above.new.0) t.loop-i-test.true
-          c.Clear-above.ensures
-          ∙ l.loop-i.invariant.3,
-      rw c.Clear-above.ensures
-          (cleared_plain a.n a.n (l.loop-i.i - 1) l.plain_rows-plain.result rows l.loop-i.invariant.4),
+      (previous_start l.at l.i a.w c.loop-i-test.true l.invariant.1).1,
+      c.clear_above.auto.cells ∙ l.invariant.2,
+      row_used a.n l.i rows (rows_of a.w a.n c.clear_above.new.cells) c.loop-i-test.true
+          c.clear_above.ensures
+          ∙ l.invariant.3,
+      rw c.clear_above.ensures
+          (cleared_plain a.n a.n (l.i - 1) c.plain_rows-plain.result rows l.invariant.4),
     )
 
 pub shape_of-cells : goal.shape_of-cells

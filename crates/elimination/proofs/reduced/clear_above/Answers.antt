@@ -16,7 +16,7 @@ use Rattle.elimination.specs.Elimination.{leading_zeros, leading, less_multiple,
 use Rattle.elimination.proofs.Elimination.{if_true, if_false}
 use Rattle.elimination.proofs.Rows.{copied_row, front_rows, rows_above}
 use Rattle.elimination.proofs.Plain.{front_plain, zeros_lent}
-use Rattle.elimination.proofs.Shape.{inside}
+use Rattle.elimination.proofs.Shape.{inside_at, copy_length}
 use Rattle.elimination.proofs.reduced.clear_above.Goals as goal
 
 -- row is a copy of row i, j the place of its first nonzero left cell, and row i starts at a
@@ -46,83 +46,65 @@ module _ (n w i j a : ℕ) (cells row : List Float) (l : n ≤ w) (here : take w
       let rows : List (List Float) = rows_of w n cells in
       sym (if_false (ltb (leading n (row_of rows i)) n) _ rows (le-ltb (leading n (row_of rows i)) n (rw place at ge)))
 
--- where row i ends, as the function begins
-row_within : (s : goal.Start)
-    → let a = s.args in (a.start + a.w ≤ length a.cells-1.now) × (length a.cells-1.now ≤ 10800)
-row_within s = let e = inside s.requires.0 s.args.i s.requires.1 in (omega (arith, e.0, s.requires.2), e.1)
-
--- row i's copy: its first w cells are the row
-module _ (c : goal.After-row_copy-row) where
-  abbrev begin : goal.Start
-  begin = c.before.before.before.before
-
-  copied : take begin.args.w c.row_copy-row.result
-      ≡ row_of (rows_of begin.args.w begin.args.n begin.args.cells-1.now) begin.args.i
-  copied =
-      copied_row begin.args.w begin.args.n begin.args.i begin.args.start begin.args.cells-1.now
-      begin.requires.1 begin.requires.0.count begin.requires.2 c.row_copy-row.result c.row_copy-row.ensures.0
-
-  own_length : length (take begin.args.w c.row_copy-row.result) ≡ begin.args.w
-  own_length =
-      length-take-le begin.args.w c.row_copy-row.result
-      (omega (arith, begin.requires.0.wide, c.row_copy-row.ensures.1))
-
-  -- the rows before it
-  front_length : length (take begin.args.start begin.args.cells-1.now) ≡ begin.args.start
-  front_length = length-take-le begin.args.start begin.args.cells-1.now (omega (arith, row_within begin))
+-- the rows before row i, which starts at a
+front_length : (a w : ℕ) (cells : List Float) → a + w ≤ length cells → length (take a cells) ≡ a
+front_length a w cells h = length-take-le a cells (omega arith)
 
 pub overflow_add-end : goal.overflow_add-end
-overflow_add-end c = omega (arith, row_within c.before)
+overflow_add-end c = omega (arith, inside_at c.requires.0 c.args.i c.args.start c.requires.1 c.requires.2)
 
 pub offset_bounds-cells-start : goal.offset_bounds-cells-start
-offset_bounds-cells-start c = omega (arith, row_within c.before)
+offset_bounds-cells-start c = omega (arith, inside_at c.requires.0 c.args.i c.args.start c.requires.1 c.requires.2)
 
 pub slice_bounds-row_copy-end : goal.slice_bounds-row_copy-end
-slice_bounds-row_copy-end c = omega (arith, row_within c.before.before)
+slice_bounds-row_copy-end c = omega (arith, inside_at c.requires.0 c.args.i c.args.start c.requires.1 c.requires.2)
 
 pub slice_bounds-first_nonzero-end : goal.slice_bounds-first_nonzero-end
 slice_bounds-first_nonzero-end c =
-    let r = c.before in
-    let s = begin r in
-    sym (length-take-le s.args.n r.row_copy-row.result (omega (arith, s.requires.0.order, r.row_copy-row.ensures.1)))
+    sym (length-take-le c.args.n c.row_copy-row.result (omega (arith, c.requires.0.order, c.row_copy-row.ensures.1)))
 
 pub slice_bounds-subtract_multiples-end : goal.slice_bounds-subtract_multiples-end
-slice_bounds-subtract_multiples-end c = omega (arith, row_within (begin c.before.before.before))
+slice_bounds-subtract_multiples-end c = omega (arith, inside_at c.requires.0 c.args.i c.args.start c.requires.1 c.requires.2)
 
 pub slice_bounds-subtract_multiples-end-then-j-n : goal.slice_bounds-subtract_multiples-end-then-j-n
-slice_bounds-subtract_multiples-end-then-j-n c = sym (front_length c.before.before.before.before)
+slice_bounds-subtract_multiples-end-then-j-n c =
+    sym (front_length c.args.start c.args.w c.args.cells.now (inside_at c.requires.0 c.args.i c.args.start c.requires.1 c.requires.2).0)
 
 pub slice_bounds-subtract_multiples-end-then-j-n-2 : goal.slice_bounds-subtract_multiples-end-then-j-n-2
-slice_bounds-subtract_multiples-end-then-j-n-2 c = sym (own_length c.before.before.before.before.before)
+slice_bounds-subtract_multiples-end-then-j-n-2 c =
+    sym (copy_length c.args.w c.row_copy-row.result c.requires.0.wide c.row_copy-row.ensures.1)
 
 pub subtract_multiples-requires : goal.subtract_multiples-requires
 subtract_multiples-requires c =
-    let r = c.before.before in
-    let s = begin r in
-    let a = s.args in (
-      front_length r ∙ s.requires.2 ∙ ap (λ (k : ℕ). s.args.i * k) (sym (own_length r)),
-      omega (arith, own_length r, c.if-j-n.true, s.requires.0.left),
-      omega (arith, s.requires.0.order, s.requires.1),
-      zeros_lent a.n a.w c.first_nonzero-j.result r.row_copy-row.result s.requires.0.left
+    let s = c.requires in
+    let a = c.args in
+    let own = copy_length a.w c.row_copy-row.result s.0.wide c.row_copy-row.ensures.1 in
+    let e = inside_at c.requires.0 c.args.i c.args.start c.requires.1 c.requires.2 in (
+      front_length a.start a.w a.cells.now e.0 ∙ s.2 ∙ ap (λ (k : ℕ). a.i * k) (sym own),
+      omega (arith, own, c.if-j-n.true, s.0.left),
+      omega (arith, s.0.order, s.1),
+      zeros_lent a.n a.w c.first_nonzero-j.result c.row_copy-row.result s.0.left
           c.first_nonzero-j.ensures c.if-j-n.true,
-      rw (own_length r)
-          (front_plain a.n a.w a.i c.first_nonzero-j.result a.start a.plain.now a.cells-1.now
-          (omega (arith, s.requires.1)) (omega (arith, c.if-j-n.true)) s.requires.2 s.requires.3),
+      rw own
+          (front_plain a.n a.w a.i c.first_nonzero-j.result a.start a.plain.now a.cells.now
+          (omega (arith, s.1)) (omega (arith, c.if-j-n.true)) s.2 s.3),
     )
 
 pub returns-then-j-n : goal.returns-then-j-n
 returns-then-j-n c =
-    let r = c.before.before in
-    let s = begin r in
-    let a = s.args in
-    put_above a.n a.w a.i c.first_nonzero-j.result a.start a.cells-1.now r.row_copy-row.result
-    s.requires.0.left (copied r) c.first_nonzero-j.ensures c.subtract_multiples.new.cells s.requires.1 s.requires.2
-    (own_length r) c.if-j-n.true (c.subtract_multiples.auto.cells ∙ front_length r) c.subtract_multiples.ensures
+    let s = c.requires in
+    let a = c.args in
+    let e = inside_at c.requires.0 c.args.i c.args.start c.requires.1 c.requires.2 in
+    put_above a.n a.w a.i c.first_nonzero-j.result a.start a.cells.now c.row_copy-row.result s.0.left
+    (copied_row a.w a.n a.i a.start a.cells.now s.1 s.0.count s.2 c.row_copy-row.result c.row_copy-row.ensures.0)
+    c.first_nonzero-j.ensures c.subtract_multiples.new.cells s.1 s.2
+    (copy_length a.w c.row_copy-row.result s.0.wide c.row_copy-row.ensures.1) c.if-j-n.true
+    (c.subtract_multiples.auto.cells ∙ front_length a.start a.w a.cells.now e.0) c.subtract_multiples.ensures
 
 pub returns-else-j-n : goal.returns-else-j-n
 returns-else-j-n c =
-    let r = c.before.before in
-    let s = begin r in
-    let a = s.args in
-    put_none a.n a.w a.i c.first_nonzero-j.result a.start a.cells-1.now r.row_copy-row.result
-    s.requires.0.left (copied r) c.first_nonzero-j.ensures c.if-j-n.false
+    let s = c.requires in
+    let a = c.args in
+    put_none a.n a.w a.i c.first_nonzero-j.result a.start a.cells.now c.row_copy-row.result s.0.left
+    (copied_row a.w a.n a.i a.start a.cells.now s.1 s.0.count s.2 c.row_copy-row.result c.row_copy-row.ensures.0)
+    c.first_nonzero-j.ensures c.if-j-n.false

@@ -9,50 +9,49 @@ use Rattle.matrix.specs.Rows.{rows_of}
 use Rattle.elimination.proofs.Parts.{part_length}
 use Rattle.elimination.proofs.Plain.{flag_set, left_plain}
 use Rattle.elimination.proofs.Rows.{next_start}
-use Rattle.elimination.proofs.Shape.{inside}
+use Rattle.elimination.proofs.Shape.{inside_at}
 use borrow.Author.Rules.{rules}
 use Rattle.elimination.proofs.reduced.plain_rows.Goals as goal
 
 pub loop-i-init : goal.loop-i-init
 loop-i-init c = (search rules, sym (zero-mul _), refl, λ r h. absurd (omega arith))
 
--- the row of a turn
-row_within : (c : goal.In-loop-i invariant_loop decreases_loop)
-    → let a = c.args in let l = c.loop-i in
-    (l.at + a.w ≤ length a.cells.now) × (length a.cells.now ≤ 10800) × (a.n ≤ a.w)
-row_within c =
-    let e = inside c.requires c.loop-i.i c.loop-i-test.true in
-    (omega (arith, c.loop-i.invariant.1, e.0), e.1, c.requires.left)
-
 pub overflow_add-end : goal.overflow_add-end
-overflow_add-end c = omega (arith, row_within c)
+overflow_add-end c =
+    let e = inside_at c.requires c.loop-i.i c.loop-i.at c.loop-i-test.true c.loop-i.invariant.1 in
+    omega (arith, e, c.requires.left)
 
 pub offset_bounds-cells-at : goal.offset_bounds-cells-at
-offset_bounds-cells-at c = omega (arith, row_within c)
+offset_bounds-cells-at c =
+    let e = inside_at c.requires c.loop-i.i c.loop-i.at c.loop-i-test.true c.loop-i.invariant.1 in
+    omega (arith, e, c.requires.left)
 
 pub slice_bounds-is_plain-end : goal.slice_bounds-is_plain-end
-slice_bounds-is_plain-end c = omega (arith, row_within c)
+slice_bounds-is_plain-end c =
+    let e = inside_at c.requires c.loop-i.i c.loop-i.at c.loop-i-test.true c.loop-i.invariant.1 in
+    omega (arith, e, c.requires.left)
 
 pub overflow_add-at : goal.overflow_add-at
-overflow_add-at c = omega (arith, row_within c.before.before)
+overflow_add-at c =
+    let e = inside_at c.requires c.loop-i.i c.loop-i.at c.loop-i-test.true c.loop-i.invariant.1 in
+    omega (arith, e)
 
 pub loop-i-preserved : goal.loop-i-preserved
 loop-i-preserved c =
-    let t = c.before.before in
-    let l = t.loop-i in
-    let s = t.before.before.before in
-    let a = s.args in
+    let l = c.loop-i in
+    let a = c.args in
     let cells = a.cells.now in
-    let e = row_within t in
-    let within : l.at + (l.at + a.n - l.at) ≤ length cells = omega arith in
+    let e = inside_at c.requires l.i l.at c.loop-i-test.true l.invariant.1 in
+    let wide : a.n ≤ a.w = c.requires.left in
+    let within : l.at + (l.at + a.n - l.at) ≤ length cells = omega (arith, e.0, wide) in
     let len : length (take (l.at + a.n - l.at) (drop l.at cells)) ≡ a.n =
     part_length l.at (l.at + a.n - l.at) cells within ∙ add-sub_cancel_left l.at a.n in
-    let row = left_plain a.n a.w l.i l.at cells t.loop-i-test.true e.2 l.invariant.1 len in (
+    let row = left_plain a.n a.w l.i l.at cells c.loop-i-test.true wide l.invariant.1 len in (
       omega arith,
       next_start l.at l.i a.w l.invariant.1,
       simp length-set l.invariant.2,
       flag_set l.i a.n l.plain (rows_of a.w a.n cells) c.is_plain.result
-          (omega (arith, l.invariant.2, s.requires.order)) l.invariant.3 (λ f. row (c.is_plain.ensures f)),
+          (omega (arith, l.invariant.2, c.requires.order)) l.invariant.3 (λ f. row (c.is_plain.ensures f)),
     )
 
 pub returns : goal.returns

@@ -15,28 +15,22 @@ use Rattle.elimination.proofs.Rows.{Turn, turn}
 use borrow.Author.Rules.{rules}
 use Rattle.elimination.proofs.reduced.subtract_multiples.Goals as goal
 
--- where the function begins, and a turn of the loop
-abbrev start : goal.In-loop-i invariant_loop decreases_loop → goal.Start invariant_loop decreases_loop
-start c = c.before.before.before.before
-
-here : (c : goal.In-loop-i invariant_loop decreases_loop)
-    → let s = start c in let l = c.loop-i in
-    Turn (length s.args.by.now) s.args.m (λ r. less_multiple s.args.j s.args.by.now)
-    s.args.cells-1.now l.cells-1 l.at l.i
+-- a turn of the loop
+here : (c : goal.In-loop-i)
+    → Turn (length c.args.by.now) c.args.m (λ r. less_multiple c.args.j c.args.by.now)
+    c.args.cells.now c.loop-i.cells c.loop-i.at c.loop-i.i
 here c =
-    let s = start c in
-    let l = c.loop-i in
-    turn (length s.args.by.now) s.args.m (λ r. less_multiple s.args.j s.args.by.now)
-    s.args.cells-1.now l.cells-1 l.at l.i l.invariant c.loop-i-test.true s.requires.0
+    turn (length c.args.by.now) c.args.m (λ r. less_multiple c.args.j c.args.by.now)
+    c.args.cells.now c.loop-i.cells c.loop-i.at c.loop-i.i c.loop-i.invariant c.loop-i-test.true c.requires.0
 
 pub loop-i-init : goal.loop-i-init
 loop-i-init c = (search rules, sym (zero-mul _), made_none _ _, refl)
 
 pub overflow_add-end : goal.overflow_add-end
-overflow_add-end c = omega (arith, (here c).ranges)
+overflow_add-end c = omega (arith, (here c).fits)
 
 pub offset_bounds-cells-at : goal.offset_bounds-cells-at
-offset_bounds-cells-at c = omega (arith, (here c).ranges)
+offset_bounds-cells-at c = omega (arith, (here c).fits)
 
 pub slice_bounds-subtract_multiple-count : goal.slice_bounds-subtract_multiple-count
 slice_bounds-subtract_multiple-count c = omega arith
@@ -45,28 +39,30 @@ pub slice_bounds-subtract_multiple-start : goal.slice_bounds-subtract_multiple-s
 slice_bounds-subtract_multiple-start c = omega arith
 
 pub slice_bounds-subtract_multiple-end : goal.slice_bounds-subtract_multiple-end
-slice_bounds-subtract_multiple-end c = omega (arith, (here c).ranges)
+slice_bounds-subtract_multiple-end c = omega (arith, (here c).fits)
 
 pub bounds-plain-i : goal.bounds-plain-i
-bounds-plain-i c = omega (arith, (start c.before).pre.2)
+bounds-plain-i c = omega (arith, c.requires.2)
 
 pub subtract_multiple-requires : goal.subtract_multiple-requires
 subtract_multiple-requires c =
-    let t = c.before.before in
-    let s = start t in
-    let r = here t in (
-      omega (arith, r.part, s.requires.1),
-      r.part,
-      s.requires.3,
+    let t =
+        turn (length c.args.by.now) c.args.m (λ r. less_multiple c.args.j c.args.by.now)
+        c.args.cells.now c.loop-i.cells c.loop-i.at c.loop-i.i c.loop-i.invariant c.loop-i-test.true c.requires.0 in (
+      omega (arith, t.part, c.requires.1),
+      t.part,
+      c.requires.3,
       λ set k h.
-          subst (λ (row : List Float). Sum (cell k row)) (sym r.row)
-          (s.requires.4 t.loop-i.i t.loop-i-test.true set k h),
+          subst (λ (row : List Float). Sum (cell k row)) (sym t.row)
+          (c.requires.4 c.loop-i.i c.loop-i-test.true set k h),
     )
 
 pub loop-i-preserved : goal.loop-i-preserved
 loop-i-preserved c =
-    let done = c.subtract_multiple in
-    (here c.before.before.before.before.before).next done.new.0 done.auto.0 done.ensures
+    let t =
+        turn (length c.args.by.now) c.args.m (λ r. less_multiple c.args.j c.args.by.now)
+        c.args.cells.now c.loop-i.cells c.loop-i.at c.loop-i.i c.loop-i.invariant c.loop-i-test.true c.requires.0 in
+    t.next c.subtract_multiple.new.row c.subtract_multiple.auto.row c.subtract_multiple.ensures
 
 pub shape_of-cells : goal.shape_of-cells
 shape_of-cells c = c.loop-i.invariant.3

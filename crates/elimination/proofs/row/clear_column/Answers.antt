@@ -41,11 +41,11 @@ subtract_scaled-requires c = simp (length-take, length-drop, length-set) (omega 
 
 pub shape_of-row : goal.shape_of-row
 shape_of-row c =
-    let row : List Float = set c.args.row-1.now c.args.k (of_bits binary64 0) in
+    let row : List Float = set c.args.row.now c.args.k (of_bits binary64 0) in
     same_len_mid (c.args.k + 1) (length row - (c.args.k + 1)) row c.subtract_scaled.new.dst
     c.subtract_scaled.auto.dst
-    ∙ length-set c.args.row-1.now c.args.k (of_bits binary64 0)
+    ∙ length-set c.args.row.now c.args.k (of_bits binary64 0)
 
 pub returns : goal.returns
 returns c =
-    put_cleared c.args.k c.args.row-1.now c.args.pivot.now _ c.requires.0 c.subtract_scaled.ensures
+    put_cleared c.args.k c.args.row.now c.args.pivot.now _ c.requires.0 c.subtract_scaled.ensures

@@ -32,9 +32,9 @@ slice_bounds-first_nonzero-end-2 c = sym (length-take-le _ _ c.requires)
 
 pub returns-then-j-n : goal.returns-then-j-n
 returns-then-j-n c =
-    put_divided c.args.n c.first_nonzero-j.result c.args.row-1.now c.divide.new.dst
+    put_divided c.args.n c.first_nonzero-j.result c.args.row.now c.divide.new.dst
     c.first_nonzero-j.ensures c.if-j-n.true c.divide.ensures
 
 pub returns-else-j-n : goal.returns-else-j-n
 returns-else-j-n c =
-    put_none c.args.n c.first_nonzero-j.result c.args.row-1.now c.first_nonzero-j.ensures c.if-j-n.false
+    put_none c.args.n c.first_nonzero-j.result c.args.row.now c.first_nonzero-j.ensures c.if-j-n.false

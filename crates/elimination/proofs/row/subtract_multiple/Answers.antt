@@ -26,7 +26,7 @@ put_less j row by part plain h z p e =
 pub returns-then-keeps_cells : goal.returns-then-keeps_cells
 returns-then-keeps_cells c =
     let a = c.args in
-    put_less a.j a.row-1.now a.by.now c.subtract_scaled.new.dst a.plain
+    put_less a.j a.row.now a.by.now c.subtract_scaled.new.dst a.plain
     (sym c.keeps_cells.ensures ∙ c.if-keeps_cells.true) c.requires.2 c.requires.3 c.subtract_scaled.ensures
 
 pub returns-else-keeps_cells : goal.returns-else-keeps_cells

@@ -34,62 +34,49 @@ module _ (n c : ℕ) where
       length_augmented (rows_of n n left) (rows_of c n right) (length_rows_of n n left ∙ sym (length_rows_of c n right))
       ∙ length_rows_of n n left
 
--- row i ends within the cells and within the two sides
-bounds : (c : goal.In-loop-i invariant_loop decreases_loop)
-    → (c.loop-i.at + c.args.n + c.args.c ≤ length c.loop-i.cells-1)
-    ×
-    (c.loop-i.l + c.args.n ≤ length c.args.left.now)
-    ×
-    (c.loop-i.r + c.args.c ≤ length c.args.right.now)
-bounds c =
-    let n : ℕ = c.args.n in
-    let t : c.loop-i.i < n = c.loop-i-test.true in (
-      omega (arith, row_end (n + c.args.c) n c.loop-i.i t),
-      omega (arith, row_end n n c.loop-i.i t),
-      omega (arith, row_end c.args.c n c.loop-i.i t),
-    )
-
 pub loop-i-init : goal.loop-i-init
 loop-i-init c = (search rules, sym (zero-mul _), sym (zero-mul _), sym (zero-mul _), made_none _ _, refl)
 
 pub overflow_add-next_at : goal.overflow_add-next_at
-overflow_add-next_at c = let b = bounds c in omega arith
+overflow_add-next_at c = omega (arith, row_end (c.args.n + c.args.c) c.args.n c.loop-i.i c.loop-i-test.true)
 
 pub overflow_add-next_at-in-loop-i : goal.overflow_add-next_at-in-loop-i
-overflow_add-next_at-in-loop-i c = let b = bounds c in omega arith
+overflow_add-next_at-in-loop-i c = omega (arith, row_end (c.args.n + c.args.c) c.args.n c.loop-i.i c.loop-i-test.true)
 
 pub overflow_add-next_l : goal.overflow_add-next_l
-overflow_add-next_l c = let b = bounds c in omega arith
+overflow_add-next_l c = omega (arith, row_end c.args.n c.args.n c.loop-i.i c.loop-i-test.true)
 
 pub overflow_add-next_r : goal.overflow_add-next_r
-overflow_add-next_r c = let b = bounds c in omega arith
+overflow_add-next_r c = omega (arith, row_end c.args.c c.args.n c.loop-i.i c.loop-i-test.true)
 
 pub offset_bounds-cells-at : goal.offset_bounds-cells-at
-offset_bounds-cells-at c = let b = bounds c in omega arith
+offset_bounds-cells-at c = omega (arith, row_end (c.args.n + c.args.c) c.args.n c.loop-i.i c.loop-i-test.true)
 
 pub slice_bounds-join-end : goal.slice_bounds-join-end
-slice_bounds-join-end c = let b = bounds c in omega arith
+slice_bounds-join-end c = omega (arith, row_end (c.args.n + c.args.c) c.args.n c.loop-i.i c.loop-i-test.true)
 
 pub offset_bounds-left-l : goal.offset_bounds-left-l
-offset_bounds-left-l c = let b = bounds c.before in omega arith
+offset_bounds-left-l c = omega (arith, row_end c.args.n c.args.n c.loop-i.i c.loop-i-test.true)
 
 pub slice_bounds-join-end-in-loop-i : goal.slice_bounds-join-end-in-loop-i
-slice_bounds-join-end-in-loop-i c = let b = bounds c.before in omega arith
+slice_bounds-join-end-in-loop-i c = omega (arith, row_end c.args.n c.args.n c.loop-i.i c.loop-i-test.true)
 
 pub offset_bounds-right-r : goal.offset_bounds-right-r
-offset_bounds-right-r c = let b = bounds c.before.before in omega arith
+offset_bounds-right-r c = omega (arith, row_end c.args.c c.args.n c.loop-i.i c.loop-i-test.true)
 
 pub slice_bounds-join-end-in-loop-i-2 : goal.slice_bounds-join-end-in-loop-i-2
-slice_bounds-join-end-in-loop-i-2 c = let b = bounds c.before.before in omega arith
+slice_bounds-join-end-in-loop-i-2 c = omega (arith, row_end c.args.c c.args.n c.loop-i.i c.loop-i-test.true)
 
 pub join-requires : goal.join-requires
 join-requires c =
     let n : ℕ = c.args.n in
     let k : ℕ = c.args.c in
     let t : c.loop-i.i < n = c.loop-i-test.true in
-    let ends = bounds c.before.before.before in
-    let row : length (take (c.loop-i.at + n + k - c.loop-i.at) (drop c.loop-i.at c.loop-i.cells-1)) ≡ n + k =
-    part_length c.loop-i.at (c.loop-i.at + n + k - c.loop-i.at) c.loop-i.cells-1 (omega arith) ∙ omega arith in
+    let end = row_end (n + k) n c.loop-i.i t in
+    let end_left = row_end n n c.loop-i.i t in
+    let end_right = row_end k n c.loop-i.i t in
+    let row : length (take (c.loop-i.at + n + k - c.loop-i.at) (drop c.loop-i.at c.loop-i.cells)) ≡ n + k =
+    part_length c.loop-i.at (c.loop-i.at + n + k - c.loop-i.at) c.loop-i.cells (omega arith) ∙ omega arith in
     let left = part_length c.loop-i.l (c.loop-i.l + n - c.loop-i.l) c.args.left.now (omega arith) in
     let right = part_length c.loop-i.r (c.loop-i.r + k - c.loop-i.r) c.args.right.now (omega arith) in
     omega (arith, row, left, right)
@@ -99,18 +86,18 @@ loop-i-preserved c =
     let n : ℕ = c.args.n in
     let k : ℕ = c.args.c in
     let t : c.loop-i.i < n = c.loop-i-test.true in
-    let ends = bounds c.before.before.before.before.before.before in
-    let row : length (take (c.loop-i.at + n + k - c.loop-i.at) (drop c.loop-i.at c.loop-i.cells-1)) ≡ n + k =
-    part_length c.loop-i.at (c.loop-i.at + n + k - c.loop-i.at) c.loop-i.cells-1 (omega arith) ∙ omega arith in
+    let end = row_end (n + k) n c.loop-i.i t in
+    let row : length (take (c.loop-i.at + n + k - c.loop-i.at) (drop c.loop-i.at c.loop-i.cells)) ≡ n + k =
+    part_length c.loop-i.at (c.loop-i.at + n + k - c.loop-i.at) c.loop-i.cells (omega arith) ∙ omega arith in
     let rows : List (List Float) = augmented (rows_of n n c.args.left.now) (rows_of k n c.args.right.now) in (
       rw add-one t,
       add_assoc c.loop-i.at n k ∙ next_start c.loop-i.at c.loop-i.i (n + k) c.loop-i.invariant.1,
       next_start c.loop-i.l c.loop-i.i n c.loop-i.invariant.2,
       next_start c.loop-i.r c.loop-i.i k c.loop-i.invariant.3,
       rw add-one
-          (row_turn (λ j x. row_of rows j) (rows_of (n + k) n c.args.cells-1.now) c.loop-i.i n (n + k) c.loop-i.at (c.loop-i.at + n + k - c.loop-i.at) c.loop-i.cells-1 c.join.new.row c.loop-i.invariant.4 t (c.loop-i.invariant.5 ∙ c.requires.0) c.loop-i.invariant.1 (ap (λ (z : ℕ). z - c.loop-i.at) (add_assoc c.loop-i.at n k) ∙ add-sub_cancel_left c.loop-i.at (n + k)) (c.join.auto.row ∙ row)
+          (row_turn (λ j x. row_of rows j) (rows_of (n + k) n c.args.cells.now) c.loop-i.i n (n + k) c.loop-i.at (c.loop-i.at + n + k - c.loop-i.at) c.loop-i.cells c.join.new.row c.loop-i.invariant.4 t (c.loop-i.invariant.5 ∙ c.requires.0) c.loop-i.invariant.1 (ap (λ (z : ℕ). z - c.loop-i.at) (add_assoc c.loop-i.at n k) ∙ add-sub_cancel_left c.loop-i.at (n + k)) (c.join.auto.row ∙ row)
           (c.join.ensures ∙ joined n k c.loop-i.i c.loop-i.l c.loop-i.r c.args.left.now c.args.right.now t c.loop-i.invariant.2 c.loop-i.invariant.3)),
-      same_len_mid c.loop-i.at (c.loop-i.at + n + k - c.loop-i.at) c.loop-i.cells-1 c.join.new.row c.join.auto.row ∙ c.loop-i.invariant.5,
+      same_len_mid c.loop-i.at (c.loop-i.at + n + k - c.loop-i.at) c.loop-i.cells c.join.new.row c.join.auto.row ∙ c.loop-i.invariant.5,
     )
 
 pub shape_of-cells : goal.shape_of-cells
@@ -122,6 +109,6 @@ returns c =
     let k : ℕ = c.args.c in
     c.loop-i.invariant.4
     ∙ made_copy (augmented (rows_of n n c.args.left.now) (rows_of k n c.args.right.now)) [] c.loop-i.i
-    (rows_of (n + k) n c.args.cells-1.now)
-    (length_rows_of (n + k) n c.args.cells-1.now ∙ sym (many n k c.args.left.now c.args.right.now))
+    (rows_of (n + k) n c.args.cells.now)
+    (length_rows_of (n + k) n c.args.cells.now ∙ sym (many n k c.args.left.now c.args.right.now))
     (rw length_rows_of (omega arith))

@@ -19,14 +19,14 @@ put_both left right row front back ef eb =
 
 pub slice_bounds-copy-end-2 : goal.slice_bounds-copy-end-2
 slice_bounds-copy-end-2 c =
-    sym (length-take-le (length c.args.left.now) c.args.row-1.now (omega arith))
+    sym (length-take-le (length c.args.left.now) c.args.row.now (omega arith))
 
 pub copy-requires : goal.copy-requires
 copy-requires c =
-    length-take-le (length c.args.left.now) c.args.row-1.now (omega arith)
+    length-take-le (length c.args.left.now) c.args.row.now (omega arith)
 
 pub returns : goal.returns
 returns c =
-    put_both c.args.left.now c.args.right.now c.args.row-1.now
+    put_both c.args.left.now c.args.right.now c.args.row.now
     c.copy.new.dst c.copy-2.new.dst
     c.copy.ensures c.copy-2.ensures

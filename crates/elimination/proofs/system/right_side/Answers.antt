@@ -26,45 +26,38 @@ right_part n c i a cells h e =
     (add-sub_cancel_left (a + n) c, get_or-map (drop n) (rows_of (n + c) n cells) i [], row_rows_of (n + c) n i cells h, drop_take n c (drop (i * (n + c)) cells), drop-drop n (i * (n + c)) cells, e)
     refl
 
--- row i ends within the output and within the cells
-bounds : (c : goal.In-loop-i invariant_loop decreases_loop)
-    → (c.loop-i.s + c.args.c ≤ length c.loop-i.solution-1) × (c.loop-i.at + c.args.n + c.args.c ≤ length c.args.cells.now)
-bounds c =
-    let n : ℕ = c.args.n in
-    let t : c.loop-i.i < n = c.loop-i-test.true in
-    (omega (arith, row_end c.args.c n c.loop-i.i t), omega (arith, row_end (n + c.args.c) n c.loop-i.i t))
-
 pub loop-i-init : goal.loop-i-init
 loop-i-init c = (search rules, sym (zero-mul _), sym (zero-mul _), made_none _ _, refl)
 
 pub overflow_add-right : goal.overflow_add-right
-overflow_add-right c = let b = bounds c in omega arith
+overflow_add-right c = omega (arith, row_end (c.args.n + c.args.c) c.args.n c.loop-i.i c.loop-i-test.true)
 
 pub overflow_add-next_at : goal.overflow_add-next_at
-overflow_add-next_at c = let b = bounds c in omega arith
+overflow_add-next_at c = omega (arith, row_end (c.args.n + c.args.c) c.args.n c.loop-i.i c.loop-i-test.true)
 
 pub overflow_add-next_s : goal.overflow_add-next_s
-overflow_add-next_s c = let b = bounds c in omega arith
+overflow_add-next_s c = omega (arith, row_end c.args.c c.args.n c.loop-i.i c.loop-i-test.true)
 
 pub offset_bounds-solution-s : goal.offset_bounds-solution-s
-offset_bounds-solution-s c = let b = bounds c in omega arith
+offset_bounds-solution-s c = omega (arith, row_end c.args.c c.args.n c.loop-i.i c.loop-i-test.true)
 
 pub slice_bounds-copy_canonical-end : goal.slice_bounds-copy_canonical-end
-slice_bounds-copy_canonical-end c = let b = bounds c in omega arith
+slice_bounds-copy_canonical-end c = omega (arith, row_end c.args.c c.args.n c.loop-i.i c.loop-i-test.true)
 
 pub offset_bounds-cells-right : goal.offset_bounds-cells-right
-offset_bounds-cells-right c = let b = bounds c.before in omega arith
+offset_bounds-cells-right c = omega (arith, row_end (c.args.n + c.args.c) c.args.n c.loop-i.i c.loop-i-test.true)
 
 pub slice_bounds-copy_canonical-end-in-loop-i : goal.slice_bounds-copy_canonical-end-in-loop-i
-slice_bounds-copy_canonical-end-in-loop-i c = let b = bounds c.before in omega arith
+slice_bounds-copy_canonical-end-in-loop-i c = omega (arith, row_end (c.args.n + c.args.c) c.args.n c.loop-i.i c.loop-i-test.true)
 
 pub copy_canonical-requires : goal.copy_canonical-requires
 copy_canonical-requires c =
     let n : ℕ = c.args.n in
     let k : ℕ = c.args.c in
     let t : c.loop-i.i < n = c.loop-i-test.true in
-    let ends = bounds c.before.before in
-    let to = part_length c.loop-i.s (c.loop-i.s + k - c.loop-i.s) c.loop-i.solution-1 (omega arith) in
+    let end_cells = row_end (n + k) n c.loop-i.i t in
+    let end = row_end k n c.loop-i.i t in
+    let to = part_length c.loop-i.s (c.loop-i.s + k - c.loop-i.s) c.loop-i.solution (omega arith) in
     let from =
     part_length (c.loop-i.at + n) (c.loop-i.at + n + k - (c.loop-i.at + n)) c.args.cells.now (omega arith) in
     omega (arith, to, from)
@@ -74,16 +67,17 @@ loop-i-preserved c =
     let n : ℕ = c.args.n in
     let k : ℕ = c.args.c in
     let t : c.loop-i.i < n = c.loop-i-test.true in
-    let ends = bounds c.before.before.before.before.before in
-    let to : length (take (c.loop-i.s + k - c.loop-i.s) (drop c.loop-i.s c.loop-i.solution-1)) ≡ k =
-    part_length c.loop-i.s (c.loop-i.s + k - c.loop-i.s) c.loop-i.solution-1 (omega arith) ∙ omega arith in (
+    let end_cells = row_end (n + k) n c.loop-i.i t in
+    let end = row_end k n c.loop-i.i t in
+    let to : length (take (c.loop-i.s + k - c.loop-i.s) (drop c.loop-i.s c.loop-i.solution)) ≡ k =
+    part_length c.loop-i.s (c.loop-i.s + k - c.loop-i.s) c.loop-i.solution (omega arith) ∙ omega arith in (
       omega arith,
       omega arith,
       omega arith,
       rw add-one
-          (row_turn (λ j x. get_or (map (drop n) (rows_of (n + k) n c.args.cells.now)) j (drop n [])) (rows_of k n c.args.solution-1.now) c.loop-i.i n k c.loop-i.s (c.loop-i.s + k - c.loop-i.s) c.loop-i.solution-1 c.copy_canonical.new.dst c.loop-i.invariant.3 t (c.loop-i.invariant.4 ∙ c.requires.0) c.loop-i.invariant.2 (add-sub_cancel_left c.loop-i.s k) (c.copy_canonical.auto.dst ∙ to)
+          (row_turn (λ j x. get_or (map (drop n) (rows_of (n + k) n c.args.cells.now)) j (drop n [])) (rows_of k n c.args.solution.now) c.loop-i.i n k c.loop-i.s (c.loop-i.s + k - c.loop-i.s) c.loop-i.solution c.copy_canonical.new.dst c.loop-i.invariant.3 t (c.loop-i.invariant.4 ∙ c.requires.0) c.loop-i.invariant.2 (add-sub_cancel_left c.loop-i.s k) (c.copy_canonical.auto.dst ∙ to)
           (c.copy_canonical.ensures ∙ right_part n k c.loop-i.i c.loop-i.at c.args.cells.now t c.loop-i.invariant.1)),
-      same_len_mid c.loop-i.s (c.loop-i.s + k - c.loop-i.s) c.loop-i.solution-1 c.copy_canonical.new.dst c.copy_canonical.auto.dst ∙ c.loop-i.invariant.4,
+      same_len_mid c.loop-i.s (c.loop-i.s + k - c.loop-i.s) c.loop-i.solution c.copy_canonical.new.dst c.copy_canonical.auto.dst ∙ c.loop-i.invariant.4,
     )
 
 pub shape_of-solution : goal.shape_of-solution
@@ -94,8 +88,8 @@ returns c =
     let n : ℕ = c.args.n in
     let k : ℕ = c.args.c in
     let rows : List (List Float) = rows_of (n + k) n c.args.cells.now in
-    is_flat k n c.loop-i.solution-1 (map (drop n) rows) (c.loop-i.invariant.4 ∙ c.requires.0)
+    is_flat k n c.loop-i.solution (map (drop n) rows) (c.loop-i.invariant.4 ∙ c.requires.0)
     (c.loop-i.invariant.3
-    ∙ made_copy (map (drop n) rows) (drop n []) c.loop-i.i (rows_of k n c.args.solution-1.now)
-    (length_rows_of k n c.args.solution-1.now ∙ sym (length-map rows (drop n) ∙ length_rows_of (n + k) n c.args.cells.now))
+    ∙ made_copy (map (drop n) rows) (drop n []) c.loop-i.i (rows_of k n c.args.solution.now)
+    (length_rows_of k n c.args.solution.now ∙ sym (length-map rows (drop n) ∙ length_rows_of (n + k) n c.args.cells.now))
     (rw length_rows_of (omega arith)))

@@ -9,13 +9,12 @@ use lib.ListN.{length, get_or, take, length-set}
 use lib.Seq.{take_all}
 use lib.Ieee.{of_bits, of_int}
 use Rattle.mass.specs.Mass.{column_of}
-use Rattle.mass.proofs.Laws.{column_below}
 use Rattle.float.specs.Number.{number}
 use Rattle.float.specs.Value.{is_zero}
 use Rattle.embedding.specs.Count.{tallied, range, how_many}
 use Rattle.embedding.specs.Design.{column_counts}
 use Rattle.embedding.specs.Listing.{seen_in}
-use Rattle.embedding.proofs.Rows.{cells_next}
+use Rattle.embedding.proofs.Rows.{column_within, cells_next}
 use Rattle.embedding.proofs.Seen.{seen_next}
 use borrow.Author.Rules.{rules}
 use Rattle.embedding.proofs.listing.count.Goals as goal
@@ -26,28 +25,35 @@ loop-i-init c =
     let h = c.requires.counts_value in
     (search rules, h, sym (ap seen_in h), ap length h)
 
--- the column of the letter at hand
-below : (c : goal.After-column-k invariant_loop decreases_loop) → c.column-k.result < 22
-below c =
-    omega (arith, c.column-k.ensures, column_below (get_or c.args.letters.now c.loop-i.i 0))
-
 pub offset_bounds-counts-k : goal.offset_bounds-counts-k
-offset_bounds-counts-k c = let h = below c in omega arith
+offset_bounds-counts-k c =
+    let h : c.column-k.result < 22 = column_within _ _ c.column-k.ensures in
+    omega arith
 
 pub bounds-counts-k : goal.bounds-counts-k
-bounds-counts-k c = let h = below c.before in omega arith
+bounds-counts-k c =
+    let h : c.column-k.result < 22 = column_within _ _ c.column-k.ensures in
+    omega arith
 
 pub offset_bounds-counts-k-in-loop-i : goal.offset_bounds-counts-k-in-loop-i
-offset_bounds-counts-k-in-loop-i c = let h = below c.before in omega arith
+offset_bounds-counts-k-in-loop-i c =
+    let h : c.column-k.result < 22 = column_within _ _ c.column-k.ensures in
+    omega arith
 
 pub bounds-counts-k-in-loop-i : goal.bounds-counts-k-in-loop-i
-bounds-counts-k-in-loop-i c = let h = below c.before in omega arith
+bounds-counts-k-in-loop-i c =
+    let h : c.column-k.result < 22 = column_within _ _ c.column-k.ensures in
+    omega arith
 
 pub overflow_cast-seen : goal.overflow_cast-seen
-overflow_cast-seen c = let h = below c.before in omega arith
+overflow_cast-seen c =
+    let h : c.column-k.result < 22 = column_within _ _ c.column-k.ensures in
+    omega arith
 
 pub overflow_shl-seen : goal.overflow_shl-seen
-overflow_shl-seen c = let h = below c.before in omega arith
+overflow_shl-seen c =
+    let h : c.column-k.result < 22 = column_within _ _ c.column-k.ensures in
+    omega arith
 
 pub loop-i-preserved : goal.loop-i-preserved
 unfolding of_bits of_int
@@ -55,7 +61,7 @@ loop-i-preserved c =
     let l = c.loop-i in
     let p = c.args.letters.now in
     let k = c.column-k.result in
-    let h : k < 22 = below c.before in (
+    let h : k < 22 = column_within _ _ c.column-k.ensures in (
       omega arith,
       cells_next 22 column_of p l.counts [] l.i l.invariant.1 k _ (omega arith) c.requires.letters_len_bound
           c.column-k.ensures h,

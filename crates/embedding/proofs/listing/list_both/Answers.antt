@@ -28,10 +28,8 @@ two_stored {A} l n x y h =
 
 pub returns : goal.returns
 returns c =
-    let a = c.args in (
-      refl,
-      (
-        two_stored a.places.now a.n a.first a.second c.requires.0,
-        rw one (two_stored a.values.now a.n _ _ c.requires.1),
-      ),
-    )
+    let a = c.args in record {
+      value = refl;
+      places_after = two_stored a.places.now a.n a.first a.second c.requires.0;
+      values_after = rw one (two_stored a.values.now a.n _ _ c.requires.1);
+    }

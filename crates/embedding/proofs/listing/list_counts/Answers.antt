@@ -8,7 +8,7 @@ use lib.Bits.{and_le_r}
 use lib.Count.{count_trailing_zeros}
 use lib.Ieee.{Float}
 use lib.ListN.{length, length-set}
-use Rattle.embedding.proofs.Seen.{all_left, none_left, place_inside, room, one_less}
+use Rattle.embedding.proofs.Seen.{all_left, none_left, place_below, room_below, one_less}
 use Rattle.embedding.proofs.listing.list_counts.Goals as goal
 
 pub loop-left-init : goal.loop-left-init
@@ -16,53 +16,45 @@ loop-left-init c =
     let a = c.args in
     (rw c.requires.seen_value.0 (all_left 0 a.counts.now 0 a.places.now a.values.now), refl, refl)
 
--- what is known in the loop: the lowest digit's place, and that there is room
-module _ (c : goal.In-loop-left invariant_loop decreases_loop) where
-  abbrev list : List Float
-  list = c.args.counts.now
-
-  most : length list ≤ 32
-  most = omega (arith, c.requires.seen_value.1)
-
-  below : count_trailing_zeros 32 c.loop-left.left < 22
-  below =
-      omega (
-        arith,
-        c.requires.seen_value.1,
-        place_inside c.loop-left.invariant.0 c.loop-left-test.true most,
-      )
-
-  few : c.loop-left.n < 22
-  few =
-      omega (
-        arith,
-        c.requires.seen_value.1,
-        room c.loop-left.invariant.0 c.loop-left-test.true most,
-      )
-
 pub overflow_cast-k : goal.overflow_cast-k
-overflow_cast-k c = omega (arith, below c)
+overflow_cast-k c =
+    let f : count_trailing_zeros 32 c.loop-left.left < 22 = place_below c.loop-left.invariant.0 c.loop-left-test.true c.requires.seen_value.1 in
+    omega arith
 
 pub offset_bounds-places-n : goal.offset_bounds-places-n
-offset_bounds-places-n c = let f = few c in omega arith
+offset_bounds-places-n c =
+    let f : c.loop-left.n < 22 = room_below c.loop-left.invariant.0 c.loop-left-test.true c.requires.seen_value.1 in
+    omega arith
 
 pub bounds-places-n : goal.bounds-places-n
-bounds-places-n c = let f = few c in omega arith
+bounds-places-n c =
+    let f : c.loop-left.n < 22 = room_below c.loop-left.invariant.0 c.loop-left-test.true c.requires.seen_value.1 in
+    omega arith
 
 pub offset_bounds-counts-k : goal.offset_bounds-counts-k
-offset_bounds-counts-k c = let f = below c in omega arith
+offset_bounds-counts-k c =
+    let f : count_trailing_zeros 32 c.loop-left.left < 22 = place_below c.loop-left.invariant.0 c.loop-left-test.true c.requires.seen_value.1 in
+    omega arith
 
 pub bounds-counts-k : goal.bounds-counts-k
-bounds-counts-k c = let f = below c.before in omega arith
+bounds-counts-k c =
+    let f : count_trailing_zeros 32 c.loop-left.left < 22 = place_below c.loop-left.invariant.0 c.loop-left-test.true c.requires.seen_value.1 in
+    omega arith
 
 pub offset_bounds-values-n : goal.offset_bounds-values-n
-offset_bounds-values-n c = let f = few c.before in omega arith
+offset_bounds-values-n c =
+    let f : c.loop-left.n < 22 = room_below c.loop-left.invariant.0 c.loop-left-test.true c.requires.seen_value.1 in
+    omega arith
 
 pub bounds-values-n : goal.bounds-values-n
-bounds-values-n c = let f = few c.before in omega arith
+bounds-values-n c =
+    let f : c.loop-left.n < 22 = room_below c.loop-left.invariant.0 c.loop-left-test.true c.requires.seen_value.1 in
+    omega arith
 
 pub overflow_add-n : goal.overflow_add-n
-overflow_add-n c = let f = few c.before in omega arith
+overflow_add-n c =
+    let f : c.loop-left.n < 22 = room_below c.loop-left.invariant.0 c.loop-left-test.true c.requires.seen_value.1 in
+    omega arith
 
 pub loop-left-smaller : goal.loop-left-smaller
 loop-left-smaller c =
@@ -72,8 +64,9 @@ loop-left-smaller c =
 
 pub loop-left-preserved : goal.loop-left-preserved
 loop-left-preserved c =
-    let f = few c.before in (
-      one_less c.loop-left.invariant.0 c.loop-left-test.true (most c.before) _ _ (omega arith) refl
+    let f : c.loop-left.n < 22 = room_below c.loop-left.invariant.0 c.loop-left-test.true c.requires.seen_value.1 in
+    let most : length c.args.counts.now ≤ 32 = omega (arith, c.requires.seen_value.1) in (
+      one_less c.loop-left.invariant.0 c.loop-left-test.true most _ _ (omega arith) refl
           (omega arith) (omega arith),
       simp length-set c.loop-left.invariant.1,
       simp length-set c.loop-left.invariant.2,

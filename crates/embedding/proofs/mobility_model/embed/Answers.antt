@@ -29,40 +29,11 @@ embed_part-requires-3 c =
       in_bounds = search rules;
     }
 
-pub slice_bounds-put_scalars-end : goal.slice_bounds-put_scalars-end
-slice_bounds-put_scalars-end c =
-    let r0 : List Float = c.args.row-1.now in
-    let b1 : List Float =
-    c.put_counts.new.row.0 in
-    let n1 =
-    same_len_mid 0 22 r0 b1
-    c.put_counts.auto.row.0 in
-    let r1 : List Float = returned 0 22 r0 b1 in
-    let b2 : List Float =
-    c.put_shares.new.length.1.0 in
-    let n2 =
-    same_len_mid 22 22 r1 b2
-    c.put_shares.auto.length.1.0 in
-    let r2 : List Float = returned 22 22 r1 b2 in
-    let b3 : List Float =
-    c.embed_part-2.new.row.0 in
-    let n3 =
-    same_len_mid 44 22 r2 b3
-    c.embed_part-2.auto.row.0 in
-    let r3 : List Float = returned 44 22 r2 b3 in
-    let b4 : List Float = c.embed_part-3.new.row.0 in
-    let n4 =
-    same_len_mid 66 22 r3 b4 c.embed_part-3.auto.row.0 in
-    let r4 : List Float = returned 66 22 r3 b4 in
-    let b5 : List Float = c.put_classes.new.row.0 in
-    let n5 = same_len_mid 88 6 r4 b5 c.put_classes.auto.row.0 in
-    omega (arith, c.requires.in_bounds, n1, n2, n3, n4, n5)
-
 pub returns : goal.returns
 unfolding mobility_row block
 returns c =
     let l = c.args.letters.now in
-    let old = c.args.row-1.now in
+    let old = c.args.row.now in
     let n = length l in
     let e =
     c.embed_part.ensures

@@ -49,21 +49,21 @@ row_blocks l mass charge cells h e =
 pub list_ends-b-requires : goal.list_ends-b-requires
 list_ends-b-requires c =
     let a = c.list_composition-a in
-    let m = a.ensures.1.few in
+    let m = a.ensures.appended.few in
     let w = length_composition c.args.letters.now in
-    (omega (arith, c.requires.in_bounds.0, a.auto.1.1.0), omega (arith, c.requires.in_bounds.1, a.auto.1.1.1.0))
+    (omega (arith, c.requires.in_bounds.0, a.auto.places), omega (arith, c.requires.in_bounds.1, a.auto.values))
 
 pub list_classes-c-requires : goal.list_classes-c-requires
 list_classes-c-requires c =
     let l = c.args.letters.now in
     let a = c.list_composition-a in
     let b = c.list_ends-b in
-    let m = a.ensures.1.few in
+    let m = a.ensures.appended.few in
     let w = length_composition l in
     let n = b.ensures.few in
     let v = length_ends l in (
-      omega (arith, c.requires.in_bounds.0, a.auto.1.1.0, b.auto.1.0),
-      omega (arith, c.requires.in_bounds.1, a.auto.1.1.1.0, b.auto.1.1.0),
+      omega (arith, c.requires.in_bounds.0, a.auto.places, b.auto.places),
+      omega (arith, c.requires.in_bounds.1, a.auto.values, b.auto.values),
     )
 
 pub list_scalars-requires : goal.list_scalars-requires
@@ -73,13 +73,13 @@ list_scalars-requires c =
     let a = c.list_composition-a in
     let b = c.list_ends-b in
     let d = c.list_classes-c in
-    let m = a.ensures.1.few in
+    let m = a.ensures.appended.few in
     let w = length_composition l in
     let n = b.ensures.few in
     let v = length_ends l in
     let k = d.ensures.few in (
-      omega (arith, c.requires.in_bounds.0, a.auto.1.1.0, b.auto.1.0, d.auto.1.0),
-      omega (arith, c.requires.in_bounds.1, a.auto.1.1.1.0, b.auto.1.1.0, d.auto.1.1.0),
+      omega (arith, c.requires.in_bounds.0, a.auto.places, b.auto.places, d.auto.places),
+      omega (arith, c.requires.in_bounds.1, a.auto.values, b.auto.values, d.auto.values),
     )
 
 pub returns : goal.returns
@@ -87,7 +87,7 @@ unfolding class_sums
 returns c =
     let l = c.args.letters.now in
     let a = c.list_composition-a in
-    listed_as (row_blocks l c.args.mass c.args.charge _ c.requires.letters_len_bound a.ensures.0)
-    (both_listed a.ensures.1 (omega (arith, length_composition l))
+    listed_as (row_blocks l c.args.mass c.args.charge _ c.requires.letters_len_bound a.ensures.counts_after)
+    (both_listed a.ensures.appended (omega (arith, length_composition l))
     (both_listed c.list_ends-b.ensures (omega (arith, length_ends l))
     (both_listed c.list_classes-c.ensures refl c.list_scalars.ensures)))

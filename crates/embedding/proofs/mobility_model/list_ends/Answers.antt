@@ -25,7 +25,7 @@ list_two-requires c =
     let m = two.ensures.few in
     let w = length_counted c.n_terminal.result.now in record {
       part_len_bound = (omega (arith, ap length c.c_terminal.ensures), search rules);
-      n_in_bounds = (omega (arith, two.auto.1.1.0), omega (arith, two.auto.1.1.1.0));
+      n_in_bounds = (omega (arith, two.auto.places), omega (arith, two.auto.values));
     }
 
 pub returns : goal.returns

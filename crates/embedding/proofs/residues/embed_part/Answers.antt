@@ -9,45 +9,46 @@ use lib.Seq.{take_all}
 use lib.Ieee.{Float, of_bits, of_int}
 use borrow.Author.Rules.{rules}
 use Rattle.mass.specs.Mass.{column_of}
-use Rattle.mass.proofs.Laws.{column_below}
 use Rattle.float.specs.Number.{number}
 use Rattle.embedding.specs.Count.{tallied, range}
 use Rattle.embedding.specs.Design.{column_counts}
-use Rattle.embedding.proofs.Rows.{cells_next, cleared}
+use Rattle.embedding.proofs.Rows.{column_within, cells_next, cleared}
 use Rattle.embedding.proofs.residues.embed_part.Goals as goal
 
 pub loop-i-init : goal.loop-i-init
 loop-i-init c =
-    let z = cleared c.args.row-1.now _ c.requires.in_bounds c.zeros.ensures in
+    let z = cleared c.args.row.now _ c.requires.in_bounds c.zeros.ensures in
     (search rules, z.0, refl)
 
--- the column of the letter at hand
-below : (c : goal.After-column-k invariant_loop decreases_loop) → c.column-k.result < 22
-below c =
-    omega
-    (arith, c.column-k.ensures, column_below (get_or c.args.part.now c.loop-i.i 0))
-
 pub offset_bounds-row-k : goal.offset_bounds-row-k
-offset_bounds-row-k c = let h = below c in omega arith
+offset_bounds-row-k c =
+    let h : c.column-k.result < 22 = column_within _ _ c.column-k.ensures in
+    omega arith
 
 pub bounds-row-k : goal.bounds-row-k
-bounds-row-k c = let h = below c.before in omega arith
+bounds-row-k c =
+    let h : c.column-k.result < 22 = column_within _ _ c.column-k.ensures in
+    omega arith
 
 pub offset_bounds-row-k-in-loop-i : goal.offset_bounds-row-k-in-loop-i
-offset_bounds-row-k-in-loop-i c = let h = below c.before in omega arith
+offset_bounds-row-k-in-loop-i c =
+    let h : c.column-k.result < 22 = column_within _ _ c.column-k.ensures in
+    omega arith
 
 pub bounds-row-k-in-loop-i : goal.bounds-row-k-in-loop-i
-bounds-row-k-in-loop-i c = let h = below c.before in omega arith
+bounds-row-k-in-loop-i c =
+    let h : c.column-k.result < 22 = column_within _ _ c.column-k.ensures in
+    omega arith
 
 pub loop-i-preserved : goal.loop-i-preserved
 unfolding of_bits of_int
 loop-i-preserved c =
     let p = c.args.part.now in (
       omega arith,
-      cells_next 22 column_of p c.loop-i.row-1 _ c.loop-i.i c.loop-i.invariant.1 c.column-k.result _
+      cells_next 22 column_of p c.loop-i.row _ c.loop-i.i c.loop-i.invariant.1 c.column-k.result _
           (omega arith)
           c.requires.part_len_bound
-          c.column-k.ensures (below c.before),
+          c.column-k.ensures (column_within _ _ c.column-k.ensures),
       simp length-set c.loop-i.invariant.2,
     )
 
@@ -55,7 +56,7 @@ pub returns : goal.returns
 unfolding column_counts
 returns c =
     let p = c.args.part.now in
-    let z = cleared c.args.row-1.now _ c.requires.in_bounds c.zeros.ensures in
+    let z = cleared c.args.row.now _ c.requires.in_bounds c.zeros.ensures in
     c.loop-i.invariant.1
     ∙ ap₂ (λ (xs : List ℕ) (r : List Float). map number (tallied (range 0 22) (map column_of xs)) ++ r)
     (take_all c.loop-i.i p c.loop-i-test.false) z.1

@@ -29,7 +29,7 @@ pub returns : goal.returns
 unfolding retention_row
 returns c =
     let l = c.args.letters.now in
-    let old = c.args.row-1.now in
+    let old = c.args.row.now in
     let d1 = next_block 0 22 22 [] (block everywhere l) old old _ (done_none old) (length_block everywhere l) (omega arith) (omega (arith, c.requires.in_bounds))
     (embedded l everywhere l _ _ c.embed_part.ensures (sym (chosen_everywhere l))) in
     let d2 = next_block 22 22 22 _ (block n_terminal l) old _ _ d1 (length_block n_terminal l) (omega arith) (omega (arith, c.requires.in_bounds))

@@ -9,6 +9,6 @@ pub returns : goal.returns
 returns c =
     let l = c.args.letters.now in
     listed_as (retention_whole l c.args.log)
-    (both_listed (listed_as (all_counted l c.count-seen.ensures.counts_after) c.list_Counts.ensures)
+    (both_listed (listed_as (all_counted l c.count-seen.ensures.counts_after) c.list_counts-n.ensures)
     (omega (arith, length_block everywhere l))
     c.list_rest.ensures)

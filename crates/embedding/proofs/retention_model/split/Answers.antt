@@ -14,7 +14,7 @@ returns c =
     let a = c.args in
     let l = a.letters.now in record {
       head_after = ap (take 22) c.embed_part.ensures
-          ∙ take_at (map number (column_counts l)) (drop 22 a.head-1.now) 22 (length_counted l)
+          ∙ take_at (map number (column_counts l)) (drop 22 a.head.now) 22 (length_counted l)
           ∙ all_counted l refl
           ∙ sym (retention_first l a.log);
       appended = c.list_rest.ensures;

@@ -118,55 +118,50 @@ not_above (fin false m e) h =
     none (m * up e) (down e) (down_pos e) (omega (arith, ltb-false (0 * 1 * down e) (m * up e * 1) h))
 
 -- ---- the answers
-at_call : (c : goal.After-truncating_f32_to_u64-t)
-    → let x = c.args.x in
-    Law x × (T (lt (fin true 1 (pos 0)) x) × T (lt x (fin false 1 (pos 64)))) × T (not (is_nan x))
-unfolding of_bits
-at_call c = law c.args.x c.if-x.true c.if-x-2.true
-
 pub truncating_f32_to_u64-t-requires : goal.truncating_f32_to_u64-t-requires
 unfolding of_bits
-truncating_f32_to_u64-t-requires c = (law c.args.x c.if-x.true c.if-x-2.true).1
+truncating_f32_to_u64-t-requires c =
+    let both = (law c.args.x c.if-x.true c.if-x-2.true).1 in
+    record { lower_bound = both.0; upper_bound = both.1 }
 
 pub int_to_float-t : goal.int_to_float-t
-unfolding in_float
+unfolding in_float of_bits
 int_to_float-t c =
-    let d = c.before in
-    let t = d.truncating_f32_to_u64-t in
-    le→leb t.result (2 ^ 53) (omega (arith, ((at_call d).0 t.result t.ensures).0))
+    let t = c.truncating_f32_to_u64-t in
+    le→leb t.result (2 ^ 53) (omega (arith, ((law c.args.x c.if-x.true c.if-x-2.true).0 t.result t.ensures).0))
 
 pub float_to_float-x : goal.float_to_float-x
+unfolding of_bits
 float_to_float-x c =
-    let d = c.before.before in
-    let x = d.args.x in
+    let x = c.args.x in
     and_i (fits binary64 x) (not (is_nan x))
-    (fits_widens x (subst T (sym d.well_formed.0.1) tt)) (at_call d).2
+    (fits_widens x (subst T (sym c.well_formed.0.1) tt)) (law c.args.x c.if-x.true c.if-x-2.true).2
 
 pub returns-then-t-lt4294967295 : goal.returns-then-t-lt4294967295
+unfolding of_bits
 returns-then-t-lt4294967295 c =
-    let d = c.before.before.before.before in
-    let t = d.truncating_f32_to_u64-t in
+    let t = c.truncating_f32_to_u64-t in
     let e : t.result + 1 ≡ min (t.result + 1) 4294967295 = omega (arith, c.if-t-lt4294967295.true) in
-    e ∙ ((at_call d).0 t.result t.ensures).1 c.if-t-x.true
+    e ∙ ((law c.args.x c.if-x.true c.if-x-2.true).0 t.result t.ensures).1 c.if-t-x.true
 
 pub returns-then-t-x : goal.returns-then-t-x
+unfolding of_bits
 returns-then-t-x c =
-    let d = c.before.before.before.before in
-    let t = d.truncating_f32_to_u64-t in
+    let t = c.truncating_f32_to_u64-t in
     let e : 4294967295 ≡ min (t.result + 1) 4294967295 = omega (arith, c.if-t-lt4294967295.false) in
-    e ∙ ((at_call d).0 t.result t.ensures).1 c.if-t-x.true
+    e ∙ ((law c.args.x c.if-x.true c.if-x-2.true).0 t.result t.ensures).1 c.if-t-x.true
 
 pub overflow_cast-result-then-x-2 : goal.overflow_cast-result-then-x-2
+unfolding of_bits
 overflow_cast-result-then-x-2 c =
-    let d = c.before.before.before in
-    let t = d.truncating_f32_to_u64-t in
-    omega (arith, ((at_call d).0 t.result t.ensures).0)
+    let t = c.truncating_f32_to_u64-t in
+    omega (arith, ((law c.args.x c.if-x.true c.if-x-2.true).0 t.result t.ensures).0)
 
 pub returns-then-x-2 : goal.returns-then-x-2
+unfolding of_bits
 returns-then-x-2 c =
-    let d = c.before.before.before in
-    let t = d.truncating_f32_to_u64-t in
-    ((at_call d).0 t.result t.ensures).2 c.if-t-x.false
+    let t = c.truncating_f32_to_u64-t in
+    ((law c.args.x c.if-x.true c.if-x-2.true).0 t.result t.ensures).2 c.if-t-x.false
 
 pub returns-then-x : goal.returns-then-x
 unfolding of_bits

@@ -8,6 +8,7 @@ use Rattle.float.specs.Convert.{narrowed}
 use Rattle.float.proofs.Nan.{zero_by_zero, is_nan_lem, no_nan, not_above}
 use Rattle.float.proofs.Laws.{narrowed_fits}
 use Rattle.float.proofs.convert.nearest_f32.Goals as goal
+use Rattle.float.proofs.convert.nearest_f32.Goals.{Start}
 
 of_bits_is : (b : ℕ)
     → of_bits binary64 b
@@ -42,7 +43,7 @@ read_back x s p f e q =
     ap (of_bits binary32) (sym q ∙ ap (λ (y : Float). to_bits binary32 (narrowed y)) is)
     ∙ of_bits-to_bits binary32 (narrowed x) (narrowed_fits x)
 
-held : (c : goal.Start) → T (fits binary64 c.args.x)
+held : (c : Start) → T (fits binary64 c.args.x)
 held c = subst T (sym c.well_formed.0.1) tt
 
 pub returns-then-x : goal.returns-then-x
@@ -64,7 +65,7 @@ float_from_bits-result c =
 pub returns-then-b-lt9223372036854775808 : goal.returns-then-b-lt9223372036854775808
 returns-then-b-lt9223372036854775808 c =
     let x = c.args.x in
-    read_back x false c.narrow_fields-p.result (held c.before.before)
+    read_back x false c.narrow_fields-p.result (held c.before.before.before)
     (is_false (leb 0x8000_0000_0000_0000 (to_bits binary64 x)) (lt→nleb 0x8000_0000_0000_0000 (to_bits binary64 x) c.if-b-lt9223372036854775808.true))
     (c.narrow_fields-p.ensures.t_value false ∙ zero-add c.narrow_fields-p.result)
 
@@ -76,6 +77,6 @@ float_from_bits-result-2 c =
 pub returns : goal.returns
 returns c =
     let x = c.args.x in
-    read_back x true (0x8000_0000 + c.narrow_fields-p.result) (held c.before.before)
+    read_back x true (0x8000_0000 + c.narrow_fields-p.result) (held c.before.before.before)
     (is_true (leb 0x8000_0000_0000_0000 (to_bits binary64 x)) (le→leb 0x8000_0000_0000_0000 (to_bits binary64 x) c.if-b-lt9223372036854775808.false))
     (c.narrow_fields-p.ensures.t_value true)

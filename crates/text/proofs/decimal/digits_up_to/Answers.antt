@@ -2,9 +2,9 @@
 -- reading the whole gives.
 use mathlib.Core.Path.{◌≡◌, refl, sym, ap, ◌∙◌}
 use mathlib.Core.List.{List, ◌∷◌}
-use Prim.Native.Nat.{ℕ, ◌+◌, ◌-◌, ◌*◌, ◌≤◌}
+use Prim.Native.Nat.{ℕ, ◌+◌, ◌-◌, ◌*◌, ◌≤◌, ◌<◌}
 use native.Mathlib.Omega.{arith}
-use lib.ListN.{drop, get_or, drop_of_length-le}
+use lib.ListN.{length, drop, get_or, drop_of_length-le}
 use borrow.Author.Rules.{rules}
 use Rattle.text.specs.Decimal.{read_from}
 use Rattle.text.specs.Answer.{decimal_read}
@@ -12,21 +12,10 @@ use Rattle.text.proofs.Lists.{drop_next}
 use Rattle.text.proofs.Decimals.{from_end, from_digit, from_low, from_high, from_over}
 use Rattle.text.proofs.decimal.digits_up_to.Goals as goal
 
-module _ (c : goal.In-loop-i invariant_loop decreases_loop) where
-  abbrev s : List ℕ
-  s = c.args.s.now
-
-  abbrev max : ℕ
-  max = c.args.max
-
-  abbrev v : ℕ
-  v = c.loop-i.v
-
-  abbrev i : ℕ
-  i = c.loop-i.i
-
+-- at a turn of the loop
+module _ (s : List ℕ) (max v i : ℕ) (lt : i < length s) (kept : read_from max v (drop i s) ≡ read_from max 0 s) where
   turn : read_from max v (get_or s i 0 ∷ drop (i + 1) s) ≡ read_from max 0 s
-  turn = ap (read_from max v) (sym (drop_next 0 s i c.loop-i-test.true)) ∙ c.loop-i.invariant.2
+  turn = ap (read_from max v) (sym (drop_next 0 s i lt)) ∙ kept
 
   -- the byte is a digit
   more : 48 ≤ get_or s i 0 → get_or s i 0 ≤ 57
@@ -37,12 +26,11 @@ pub loop-i-init : goal.loop-i-init
 loop-i-init c = (search rules, search rules, refl)
 
 pub returns-then-c-lt48 : goal.returns-then-c-lt48
-returns-then-c-lt48 c = let l = c.before.before in ap decimal_read (sym (from_low (max l) (v l) _ _ c.if-c-lt48.true) ∙ turn l)
+returns-then-c-lt48 c = ap decimal_read (sym (from_low c.args.max c.loop-i.v _ _ c.if-c-lt48.true) ∙ turn c.args.s.now c.args.max c.loop-i.v c.loop-i.i c.loop-i-test.true c.loop-i.invariant.2)
 
 pub returns-then-c-gt57 : goal.returns-then-c-gt57
 returns-then-c-gt57 c =
-    let l = c.before.before.before in
-    ap decimal_read (sym (from_high (max l) (v l) _ _ c.if-c-gt57.true) ∙ turn l)
+    ap decimal_read (sym (from_high c.args.max c.loop-i.v _ _ c.if-c-gt57.true) ∙ turn c.args.s.now c.args.max c.loop-i.v c.loop-i.i c.loop-i-test.true c.loop-i.invariant.2)
 
 pub overflow_mul-v : goal.overflow_mul-v
 overflow_mul-v c = omega arith
@@ -55,13 +43,12 @@ overflow_add-v c = omega arith
 
 pub returns-then-v-max : goal.returns-then-v-max
 returns-then-v-max c =
-    let l = c.before.before.before.before in
     ap decimal_read
-    (sym (from_over (max l) _ (drop (i l + 1) (s l)) c.if-v-max.true) ∙ more l c.if-c-lt48.false c.if-c-gt57.false)
+    (sym (from_over c.args.max _ (drop (c.loop-i.i + 1) c.args.s.now) c.if-v-max.true) ∙ more c.args.s.now c.args.max c.loop-i.v c.loop-i.i c.loop-i-test.true c.loop-i.invariant.2 c.if-c-lt48.false c.if-c-gt57.false)
 
 pub loop-i-preserved : goal.loop-i-preserved
 loop-i-preserved c =
-    (omega arith, c.if-v-max.false, more c.before.before.before.before c.if-c-lt48.false c.if-c-gt57.false)
+    (omega arith, c.if-v-max.false, more c.args.s.now c.args.max c.loop-i.v c.loop-i.i c.loop-i-test.true c.loop-i.invariant.2 c.if-c-lt48.false c.if-c-gt57.false)
 
 pub overflow_cast-result : goal.overflow_cast-result
 overflow_cast-result c = omega arith

@@ -60,40 +60,27 @@ returns-then-s-eq0 c = ap signed_read (sym (signed_empty _ c.if-s-eq0.true))
 pub returns-in_default : goal.returns-in_default
 returns-in_default c =
     ap signed_read
-    (sym (rest_none _ c.if-s-eq45.true (sym c.enum_told-1.given.1 ∙ c.read_decimal.ensures)))
+    (sym (rest_none _ c.if-s-eq45.true c.in_default.ensures))
 
 -- the number after the `-`
-module _ (c : goal.In-Value) where
-  abbrev s : List ℕ
-  s = c.args.s.now
-
-  abbrev n : ℕ
-  n = c.n-1.given.0.0
-
-  told : D.Value n ≡ decimal_read (read_decimal (2 ^ 31) (take (length s - 1) (drop 1 s)))
-  told = sym c.n-1.given.1 ∙ c.read_decimal.ensures
-
-  most : n ≤ 2 ^ 31
-  most = decimal_max (2 ^ 31) n (take (length s - 1) (drop 1 s)) told
-
-  is : read_signed s ≡ negative (some n)
-  is = rest_some s c.if-s-eq45.true n told
+most : (s : List ℕ) (n : ℕ) → D.Value n ≡ decimal_read (read_decimal (2 ^ 31) (take (length s - 1) (drop 1 s))) → n ≤ 2 ^ 31
+most s n told = decimal_max (2 ^ 31) n (take (length s - 1) (drop 1 s)) told
 
 pub returns-then-n-eq0 : goal.returns-then-n-eq0
 unfolding negative
-returns-then-n-eq0 c = ap signed_read (sym (is c.before ∙ ap (λ (k : ℕ). negative (some k)) c.if-n-eq0.true))
+returns-then-n-eq0 c = ap signed_read (sym (rest_some c.args.s.now c.if-s-eq45.true c.in-Value.n c.in-Value.ensures ∙ ap (λ (k : ℕ). negative (some k)) c.if-n-eq0.true))
 
 pub overflow_cast-result : goal.overflow_cast-result
-overflow_cast-result c = record { sfits = omega (arith, most c.before) }
+overflow_cast-result c = record { sfits = omega (arith, most c.args.s.now c.in-Value.n c.in-Value.ensures) }
 
 pub overflow_sub-result-then-s-eq45 : goal.overflow_sub-result-then-s-eq45
-overflow_sub-result-then-s-eq45 c = below (n c.before - 1) (omega (arith, most c.before))
+overflow_sub-result-then-s-eq45 c = below (c.in-Value.n - 1) (omega (arith, most c.args.s.now c.in-Value.n c.in-Value.ensures))
 
 pub returns-then-s-eq45 : goal.returns-then-s-eq45
 returns-then-s-eq45 c =
-    let k : n c.before - 1 < 2 ^ 31 = omega (arith, most c.before, c.if-n-eq0.false) in
-    ap S.Value (less (n c.before - 1) k)
-    ∙ ap signed_read (sym (is c.before ∙ negative_is (n c.before) c.if-n-eq0.false))
+    let k : c.in-Value.n - 1 < 2 ^ 31 = omega (arith, most c.args.s.now c.in-Value.n c.in-Value.ensures, c.if-n-eq0.false) in
+    ap S.Value (less (c.in-Value.n - 1) k)
+    ∙ ap signed_read (sym (rest_some c.args.s.now c.if-s-eq45.true c.in-Value.n c.in-Value.ensures ∙ negative_is (c.in-Value.n) c.if-n-eq0.false))
 
 -- ---- no `-`
 module _ (s : List ℕ) (m : get_or s 0 0 ≡ 45 → ⊥) where
@@ -110,25 +97,15 @@ module _ (s : List ℕ) (m : get_or s 0 0 ≡ 45 → ⊥) where
 pub returns-in_default-read_decimal : goal.returns-in_default-read_decimal
 returns-in_default-read_decimal c =
     ap signed_read
-    (sym (whole_none c.args.s.now c.if-s-eq45.false (sym c.enum_told-in_default-read_decimal-1.given.1 ∙ c.read_decimal-2.ensures)))
+    (sym (whole_none c.args.s.now c.if-s-eq45.false c.in_default-read_decimal.ensures))
 
-module _ (c : goal.In-Value-read_decimal) where
-  abbrev s₂ : List ℕ
-  s₂ = c.args.s.now
-
-  abbrev n₂ : ℕ
-  n₂ = c.n-in-Value-read_decimal-2-1.given.0.0
-
-  told₂ : D.Value n₂ ≡ decimal_read (read_decimal (2 ^ 31 - 1) s₂)
-  told₂ = sym c.n-in-Value-read_decimal-2-1.given.1 ∙ c.read_decimal-2.ensures
-
-  most₂ : n₂ < 2 ^ 31
-  most₂ = omega (arith, decimal_max (2 ^ 31 - 1) n₂ s₂ told₂)
+most₂ : (s : List ℕ) (n : ℕ) → D.Value n ≡ decimal_read (read_decimal (2 ^ 31 - 1) s) → n < 2 ^ 31
+most₂ s n told = omega (arith, decimal_max (2 ^ 31 - 1) n s told)
 
 pub overflow_cast-result-2 : goal.overflow_cast-result-2
-overflow_cast-result-2 c = record { sfits = most₂ c }
+overflow_cast-result-2 c = record { sfits = most₂ c.args.s.now c.in-Value-read_decimal.n c.in-Value-read_decimal.ensures }
 
 pub returns : goal.returns
 returns c =
-    ap S.Value (to_z_pos w32 (most₂ c))
-    ∙ ap signed_read (sym (whole_some (s₂ c) c.if-s-eq45.false (n₂ c) (told₂ c)))
+    ap S.Value (to_z_pos w32 (most₂ c.args.s.now c.in-Value-read_decimal.n c.in-Value-read_decimal.ensures))
+    ∙ ap signed_read (sym (whole_some c.args.s.now c.if-s-eq45.false c.in-Value-read_decimal.n c.in-Value-read_decimal.ensures))

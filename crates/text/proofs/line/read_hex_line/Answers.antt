@@ -1,7 +1,7 @@
 -- `text::line::read_hex_line` meets its contract: by where the value stands, and by what it is.
 use mathlib.Core.Path.{◌≡◌, sym, ap, ◌∙◌}
 use mathlib.Core.List.{List}
-use Prim.Native.Nat.{ℕ, ◌-◌}
+use Prim.Native.Nat.{ℕ, ◌-◌, ◌<◌}
 use native.Mathlib.Omega.{arith}
 use lib.ListN.{length, take, drop, length-drop}
 use lib.Seq.{length-take-le}
@@ -12,82 +12,51 @@ use Rattle.text.specs.Answer.{value_at, hex_line_at}
 use Rattle.text.proofs.Answers.{line_malformed, found_le, found_within, line_none, line_some, next_is, digits_other, digits_none, digits_some}
 use Rattle.text.proofs.line.read_hex_line.Goals as goal
 
-module _ (c : goal.In-Found) where
-  abbrev text : List ℕ
-  text = c.args.text.now
-
-  abbrev at : ℕ
-  at = c.args.at
-
-  abbrev key : List ℕ
-  key = c.args.key.now
-
-  abbrev digits : ℕ
-  digits = c.args.digits
-
-  abbrev from : ℕ
-  from = c.from-1.given.0.0
-
-  abbrev end : ℕ
-  end = c.from-1.given.0.1.0
-
-  told : VA.Found from end ≡ value_at at key (line_of (drop at text))
-  told = sym c.from-1.given.1 ∙ c.find_value.ensures
-
-  abbrev part : List ℕ
-  part = take (end - from) (drop from text)
-
-  -- the value is as long as the code works out
-  wide : length part ≡ end - from
-  wide =
-      length-take-le (end - from) (drop from text)
-      (rw length-drop (omega (arith, found_within text at key from end told)))
+-- the part from f to e is as long as the code works out
+wide : (s : List ℕ) (f e : ℕ) → e < length s → length (take (e - f) (drop f s)) ≡ e - f
+wide s f e h = length-take-le (e - f) (drop f s) (rw length-drop (omega arith))
 
 pub returns-in_default : goal.returns-in_default
 unfolding hex_line
 returns-in_default c =
     let a = c.args in
     ap (hex_line_at a.at)
-    (sym (line_malformed (read_hex_digits a.digits) a.text.now a.at a.key.now (sym c.enum_told-1.given.1 ∙ c.find_value.ensures)))
+    (sym (line_malformed (read_hex_digits a.digits) a.text.now a.at a.key.now c.in_default.ensures))
 
 pub overflow_sub-end : goal.overflow_sub-end
-overflow_sub-end c = found_le (text c) (at c) (key c) (from c) (end c) (told c)
+overflow_sub-end c = found_le c.args.text.now c.args.at c.args.key.now c.in-Found.from c.in-Found.end c.in-Found.ensures
 
 pub returns-then-end-from : goal.returns-then-end-from
 unfolding hex_line
 returns-then-end-from c =
-    let l = c.before in
-    ap (hex_line_at (at l))
-    (sym (line_none (text l) (at l) (key l) (from l) (end l) (told l) (read_hex_digits (digits l)) (digits_other (digits l) (part l) (λ e. c.if-end-from.true (sym (wide l) ∙ e)))))
+    ap (hex_line_at c.args.at)
+    (sym (line_none c.args.text.now c.args.at c.args.key.now c.in-Found.from c.in-Found.end c.in-Found.ensures (read_hex_digits c.args.digits) (digits_other c.args.digits _ (λ e. c.if-end-from.true (sym (wide c.args.text.now c.in-Found.from c.in-Found.end (found_within c.args.text.now c.args.at c.args.key.now c.in-Found.from c.in-Found.end c.in-Found.ensures)) ∙ e)))))
 
 pub slice_bounds-read_hex-count : goal.slice_bounds-read_hex-count
-slice_bounds-read_hex-count c = let l = c.before in found_le (text l) (at l) (key l) (from l) (end l) (told l)
+slice_bounds-read_hex-count c = found_le c.args.text.now c.args.at c.args.key.now c.in-Found.from c.in-Found.end c.in-Found.ensures
 
 pub slice_bounds-read_hex-start : goal.slice_bounds-read_hex-start
-slice_bounds-read_hex-start c = let l = c.before in found_le (text l) (at l) (key l) (from l) (end l) (told l)
+slice_bounds-read_hex-start c = found_le c.args.text.now c.args.at c.args.key.now c.in-Found.from c.in-Found.end c.in-Found.ensures
 
 pub slice_bounds-read_hex-end : goal.slice_bounds-read_hex-end
-slice_bounds-read_hex-end c = let l = c.before in omega (arith, found_within (text l) (at l) (key l) (from l) (end l) (told l))
+slice_bounds-read_hex-end c = omega (arith, found_within c.args.text.now c.args.at c.args.key.now c.in-Found.from c.in-Found.end c.in-Found.ensures)
 
 pub returns-in_default-read_hex : goal.returns-in_default-read_hex
 unfolding hex_line
 returns-in_default-read_hex c =
-    let l = c.before.before.before in
-    ap (hex_line_at (at l))
-    (sym (line_none (text l) (at l) (key l) (from l) (end l) (told l) (read_hex_digits (digits l))
-    (digits_none (digits l) (part l) (wide l ∙ c.if-end-from.false) (sym c.enum_told-in_default-read_hex-1.given.1 ∙ c.read_hex.ensures))))
+    ap (hex_line_at c.args.at)
+    (sym (line_none c.args.text.now c.args.at c.args.key.now c.in-Found.from c.in-Found.end c.in-Found.ensures (read_hex_digits c.args.digits)
+    (digits_none c.args.digits _ (wide c.args.text.now c.in-Found.from c.in-Found.end (found_within c.args.text.now c.args.at c.args.key.now c.in-Found.from c.in-Found.end c.in-Found.ensures) ∙ c.if-end-from.false) c.in_default-read_hex.ensures)))
 
 pub overflow_add-result : goal.overflow_add-result
 overflow_add-result c =
-    let l = c.before.before.before.before.before.before in
-    omega (arith, found_within (text l) (at l) (key l) (from l) (end l) (told l))
+    omega (arith, found_within c.args.text.now c.args.at c.args.key.now c.in-Found.from c.in-Found.end c.in-Found.ensures)
 
 pub returns : goal.returns
 unfolding hex_line
 returns c =
-    let l = c.before.before.before in
-    let v = c.value-1.given.0.0 in
-    ap (HL.Value v) (sym (next_is (text l) (at l) (key l) (from l) (end l) (told l)))
-    ∙ ap (hex_line_at (at l))
-    (sym (line_some (text l) (at l) (key l) (from l) (end l) (told l) (read_hex_digits (digits l)) v
-    (digits_some (digits l) (part l) v (wide l ∙ c.if-end-from.false) (sym c.value-1.given.1 ∙ c.read_hex.ensures))))
+    let v = c.in-Value.value in
+    ap (HL.Value v) (sym (next_is c.args.text.now c.args.at c.args.key.now c.in-Found.from c.in-Found.end c.in-Found.ensures))
+    ∙ ap (hex_line_at c.args.at)
+    (sym (line_some c.args.text.now c.args.at c.args.key.now c.in-Found.from c.in-Found.end c.in-Found.ensures (read_hex_digits c.args.digits) v
+    (digits_some c.args.digits _ v (wide c.args.text.now c.in-Found.from c.in-Found.end (found_within c.args.text.now c.args.at c.args.key.now c.in-Found.from c.in-Found.end c.in-Found.ensures) ∙ c.if-end-from.false) c.in-Value.ensures)))

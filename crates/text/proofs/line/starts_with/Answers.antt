@@ -2,30 +2,23 @@
 -- with the rest of key.
 use mathlib.Core.Path.{◌≡◌, refl, sym, ap, ap₂, ◌∙◌}
 use mathlib.Core.List.{List, ◌∷◌}
-use Prim.Native.Nat.{ℕ, ◌+◌, ◌-◌}
+use Prim.Native.Nat.{ℕ, ◌+◌, ◌≤◌, ◌<◌}
 use native.Mathlib.Omega.{arith}
-use lib.ListN.{drop, get_or, drop_of_length-le}
+use lib.ListN.{length, drop, get_or, drop_of_length-le}
 use borrow.Author.Rules.{rules}
 use Rattle.text.specs.Line.{starts_with}
 use Rattle.text.proofs.Lists.{drop_next}
 use Rattle.text.proofs.Answers.{starts_short, starts_differ, starts_same}
 use Rattle.text.proofs.line.starts_with.Goals as goal
 
-module _ (c : goal.In-loop-i invariant_loop decreases_loop) where
-  abbrev s : List ℕ
-  s = c.args.s.now
-
-  abbrev key : List ℕ
-  key = c.args.key.now
-
-  abbrev i : ℕ
-  i = c.loop-i.i
-
-  turn : starts_with (get_or key i 0 ∷ drop (i + 1) key) (get_or s i 0 ∷ drop (i + 1) s) ≡ starts_with key s
-  turn =
-      ap₂ (λ (k l : List ℕ). starts_with k l) (sym (drop_next 0 key i c.loop-i-test.true))
-      (sym (drop_next 0 s i (omega arith)))
-      ∙ c.loop-i.invariant.1
+-- at a turn of the loop
+turn : (s key : List ℕ) (i : ℕ) → i < length key → length key ≤ length s
+    → starts_with (drop i key) (drop i s) ≡ starts_with key s
+    → starts_with (get_or key i 0 ∷ drop (i + 1) key) (get_or s i 0 ∷ drop (i + 1) s) ≡ starts_with key s
+turn s key i lt le kept =
+    ap₂ (λ (k l : List ℕ). starts_with k l) (sym (drop_next 0 key i lt))
+    (sym (drop_next 0 s i (omega arith)))
+    ∙ kept
 
 pub returns-then-s-key : goal.returns-then-s-key
 returns-then-s-key c = sym (starts_short _ _ c.if-s-key.true)
@@ -38,13 +31,11 @@ bounds-s-i c = omega arith
 
 pub returns-then-s-i : goal.returns-then-s-i
 returns-then-s-i c =
-    let l = c.before.before.before in
-    sym (starts_differ (get_or (key l) (i l) 0) (get_or (s l) (i l) 0) _ _ c.if-s-i.true) ∙ turn l
+    sym (starts_differ (get_or c.args.key.now c.loop-i.i 0) (get_or c.args.s.now c.loop-i.i 0) _ _ c.if-s-i.true) ∙ turn c.args.s.now c.args.key.now c.loop-i.i c.loop-i-test.true c.loop-i.invariant.0 c.loop-i.invariant.1
 
 pub loop-i-preserved : goal.loop-i-preserved
 loop-i-preserved c =
-    let l = c.before.before.before in
-    (omega arith, sym (starts_same (get_or (key l) (i l) 0) (get_or (s l) (i l) 0) _ _ c.if-s-i.false) ∙ turn l)
+    (omega arith, sym (starts_same (get_or c.args.key.now c.loop-i.i 0) (get_or c.args.s.now c.loop-i.i 0) _ _ c.if-s-i.false) ∙ turn c.args.s.now c.args.key.now c.loop-i.i c.loop-i-test.true c.loop-i.invariant.0 c.loop-i.invariant.1)
 
 pub returns : goal.returns
 unfolding starts_with

@@ -62,6 +62,6 @@ pub returns : goal.returns
 returns c =
     let a = c.args in
     subst
-    (λ (t : List ℕ). Wrote a.out-1.now a.at t c.write_bytes.result c.write_bytes.new.out)
+    (λ (t : List ℕ). Wrote a.out.now a.at t c.write_bytes.result c.write_bytes.new.out)
     (stored a.n c.loop-rest.i c.loop-rest.rest c.loop-rest.digits c.loop-rest.invariant.0 c.loop-rest.invariant.1 c.loop-rest-test.false c.loop-rest.invariant.3)
     c.write_bytes.ensures

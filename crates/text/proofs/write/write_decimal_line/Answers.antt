@@ -28,6 +28,6 @@ shape_of-out c =
 pub returns : goal.returns
 returns c =
     let a = c.args in
-    wrote_then a.out-1.now a.at (a.key.now ++ decimal_of a.n) (10 ∷ []) _ _ _ _
-    (wrote_then a.out-1.now a.at a.key.now (decimal_of a.n) _ _ _ _ c.write_bytes-from.ensures c.write_decimal-end.ensures)
+    wrote_then a.out.now a.at (a.key.now ++ decimal_of a.n) (10 ∷ []) _ _ _ _
+    (wrote_then a.out.now a.at a.key.now (decimal_of a.n) _ _ _ _ c.write_bytes-from.ensures c.write_decimal-end.ensures)
     c.write_bytes.ensures

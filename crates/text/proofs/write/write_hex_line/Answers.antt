@@ -1,7 +1,7 @@
 -- `text::write::write_hex_line` meets its contract: three texts, one written after the other.
 use mathlib.Core.Path.{◌≡◌, sym, ap, ◌∙◌, subst}
 use mathlib.Core.List.{List, [], ◌∷◌, ◌++◌}
-use Prim.Native.Nat.{ℕ, ◌+◌, ◌-◌, ◌<◌}
+use Prim.Native.Nat.{ℕ, ◌+◌, ◌-◌, ◌≤◌, ◌<◌}
 use native.Mathlib.Omega.{arith}
 use lib.ListN.{length, take, drop, length-take, length-drop}
 use borrow.Rule.Slice.PartMut.{put_mid}
@@ -26,53 +26,37 @@ pub write_hex-requires : goal.write_hex-requires
 write_hex-requires c = tt
 
 -- the digits in their part
-module _ (c : goal.After-write_hex) where
-  abbrev b : goal.After-write_bytes-from
-  b = c.before.before.before.before
+put : (m : List ℕ) (from digits v : ℕ) (ys : List ℕ) → from + digits < length m
+    → ys ≡ hex_of (length (take (from + digits - from) (drop from m))) v
+    → Wrote m from (hex_of digits v) (from + digits) (put_mid from (from + digits - from) m ys)
+put m from digits v ys within is =
+    let k : from + digits - from ≡ digits = omega arith in
+    let wide : length (take (from + digits - from) (drop from m)) ≡ digits =
+    simp (length-take, length-drop) (omega (arith, within)) in
+    subst
+    (λ (ys : List ℕ). Wrote m from (hex_of digits v) (from + digits) (put_mid from (from + digits - from) m ys))
+    (sym (is ∙ ap (λ (k : ℕ). hex_of k v) wide))
+    (wrote_part m from (hex_of digits v) (from + digits - from) (from + digits) (length_hex_of digits v ∙ sym k) (omega arith) (omega (arith, within)))
 
-  abbrev digits : ℕ
-  digits = b.args.digits
-
-  abbrev v : ℕ
-  v = b.args.v
-
-  abbrev from : ℕ
-  from = b.write_bytes-from.result
-
-  abbrev m : List ℕ
-  m = b.write_bytes-from.last.0
-
-  within : from + digits < length m
-  within = omega (arith, b.write_bytes-from.ensures.next, b.write_bytes-from.kept.0, b.requires)
-
-  wide : length (take (from + digits - from) (drop from m)) ≡ digits
-  wide = simp (length-take, length-drop) (omega (arith, within))
-
-  filled : c.write_hex.new.out.0 ≡ hex_of digits v
-  filled = c.write_hex.ensures ∙ ap (λ (k : ℕ). hex_of k v) wide
-
-  put : Wrote m from (hex_of digits v) (from + digits) (put_mid from (from + digits - from) m c.write_hex.new.out.0)
-  put =
-      let k : from + digits - from ≡ digits = omega arith in
-      subst
-      (λ (ys : List ℕ). Wrote m from (hex_of digits v) (from + digits) (put_mid from (from + digits - from) m ys))
-      (sym filled)
-      (wrote_part m from (hex_of digits v) (from + digits - from) (from + digits) (length_hex_of digits v ∙ sym k) (omega arith) (omega (arith, within)))
+-- the line's end is within the slice
+within : (out key : List ℕ) (at digits from : ℕ) (m : List ℕ) → at + length key + digits + 1 ≤ length out
+    → from ≡ at + length key → length m ≡ length out → from + digits < length m
+within out key at digits from m room next kept = omega arith
 
 pub write_bytes-requires : goal.write_bytes-requires
 write_bytes-requires c =
-    let d = c.before.before.before.before in
-    omega (arith, within d, wrote_length (m d) (from d) _ _ _ (put d))
-
-pub shape_of-out : goal.shape_of-out
-shape_of-out c =
-    let d = c.before.before.before.before.before in
-    c.write_bytes.auto.out ∙ wrote_length (m d) (from d) _ _ _ (put d) ∙ (b d).write_bytes-from.auto.out
+    let m = c.write_bytes-from.new.out in
+    let from = c.write_bytes-from.result in
+    let room = within c.args.out.now c.args.key.now c.args.at c.args.digits from m c.requires c.write_bytes-from.ensures.next c.write_bytes-from.auto.out in
+    let w = put m from c.args.digits c.args.v _ room c.write_hex.ensures in
+    omega (arith, room, wrote_length m from _ _ _ w)
 
 pub returns : goal.returns
 returns c =
-    let d = c.before.before.before.before.before in
-    let a = (b d).args in
-    wrote_then a.out-1.now a.at (a.key.now ++ hex_of (digits d) (v d)) (10 ∷ []) _ _ _ _
-    (wrote_then a.out-1.now a.at a.key.now (hex_of (digits d) (v d)) _ _ _ _ (b d).write_bytes-from.ensures (put d))
+    let a = c.args in
+    let m = c.write_bytes-from.new.out in
+    let from = c.write_bytes-from.result in
+    let room = within a.out.now a.key.now a.at a.digits from m c.requires c.write_bytes-from.ensures.next c.write_bytes-from.auto.out in
+    wrote_then a.out.now a.at (a.key.now ++ hex_of a.digits a.v) (10 ∷ []) _ _ _ _
+    (wrote_then a.out.now a.at a.key.now (hex_of a.digits a.v) _ _ _ _ c.write_bytes-from.ensures (put m from a.digits a.v _ room c.write_hex.ensures))
     c.write_bytes.ensures
