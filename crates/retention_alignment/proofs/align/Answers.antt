@@ -30,9 +30,12 @@ part n h = length_take_replicate n max_files 0 h
 
 pub max_rt_by_file-requires : goal.max_rt_by_file-requires
 max_rt_by_file-requires c =
-    let n = part c.args.files c.requires.files_max in
-    (c.requires.rt, ap (λ (k : ℕ). all_below k c.args.file.now) n ∙ c.requires.file_numbers, take_replicate
-        c.args.files max_files 0 c.requires.files_max ∙ ap (λ (k : ℕ). replicate k 0) (sym n))
+    let n = part c.args.files c.requires.files_max in (
+      c.requires.rt,
+      ap (λ (k : ℕ). all_below k c.args.file.now) n ∙ c.requires.file_numbers,
+      take_replicate
+          c.args.files max_files 0 c.requires.files_max ∙ ap (λ (k : ℕ). replicate k 0) (sym n),
+    )
 
 pub mean_rt_by_file-requires : goal.mean_rt_by_file-requires
 mean_rt_by_file-requires c =

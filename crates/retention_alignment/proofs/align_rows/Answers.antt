@@ -29,12 +29,20 @@ pub bounds-max_rt-k : goal.bounds-max_rt-k
 bounds-max_rt-k c = below_at (length c.args.max_rt.now) c.args.file.now c.loop-i.i c.requires.2 c.loop-i-test.true
 
 pub bounds-slope-k : goal.bounds-slope-k
-bounds-slope-k c = omega (arith, below_at (length c.args.max_rt.now) c.args.file.now c.loop-i.i c.requires.2
-    c.loop-i-test.true, c.requires.3)
+bounds-slope-k c = omega (
+  arith,
+  below_at (length c.args.max_rt.now) c.args.file.now c.loop-i.i c.requires.2
+      c.loop-i-test.true,
+  c.requires.3,
+)
 
 pub bounds-intercept-k : goal.bounds-intercept-k
-bounds-intercept-k c = omega (arith, below_at (length c.args.max_rt.now) c.args.file.now c.loop-i.i c.requires.2
-    c.loop-i-test.true, c.requires.4)
+bounds-intercept-k c = omega (
+  arith,
+  below_at (length c.args.max_rt.now) c.args.file.now c.loop-i.i c.requires.2
+      c.loop-i-test.true,
+  c.requires.4,
+)
 
 pub loop-i-preserved : goal.loop-i-preserved
 loop-i-preserved c =

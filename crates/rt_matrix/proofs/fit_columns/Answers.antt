@@ -15,8 +15,12 @@ add_peptides-requires c =
       g.0,
       fresh_sized (length a.max.now) a.len.now a.dot.now a.sum_x.now a.sum_y.now a.x_mean.now a.sx2.now
           c.requires.fresh,
-      λ k. omega (arith, g.1, fresh_count (length a.max.now) a.len.now a.dot.now a.sum_x.now a.sum_y.now
-          a.x_mean.now a.sx2.now c.requires.fresh k),
+      λ k. omega (
+        arith,
+        g.1,
+        fresh_count (length a.max.now) a.len.now a.dot.now a.sum_x.now a.sum_y.now
+            a.x_mean.now a.sx2.now c.requires.fresh k,
+      ),
       omega (arith, g.2),
     )
 
@@ -24,7 +28,7 @@ pub x_means-requires : goal.x_means-requires
 x_means-requires c =
     let a = c.args in
     let z = fresh_sized (length a.max.now) a.len.now a.dot.now a.sum_x.now a.sum_y.now a.x_mean.now a.sx2.now
-        c.requires.fresh in
+    c.requires.fresh in
     (omega (arith, z.len, z.sum_x), omega (arith, z.len, c.requires.fresh.means))
 
 pub add_peptides-requires-2 : goal.add_peptides-requires-2
@@ -42,15 +46,18 @@ pub store_alignments-requires : goal.store_alignments-requires
 store_alignments-requires c =
     let a = c.args in
     let z = fresh_sized (length a.max.now) a.len.now a.dot.now a.sum_x.now a.sum_y.now a.x_mean.now a.sx2.now
-        c.requires.fresh in (
+    c.requires.fresh in (
       record {
         len = omega (arith, z.len);
         dot = omega (arith, z.dot);
         sum_x = omega (arith, z.sum_x);
         sum_y = omega (arith, z.sum_y);
       },
-      omega (arith, fresh_squares (length a.max.now) a.len.now a.dot.now a.sum_x.now a.sum_y.now a.x_mean.now
-          a.sx2.now c.requires.fresh),
+      omega (
+        arith,
+        fresh_squares (length a.max.now) a.len.now a.dot.now a.sum_x.now a.sum_y.now a.x_mean.now
+            a.sx2.now c.requires.fresh,
+      ),
       c.requires.shaped_at.3,
     )
 
@@ -60,9 +67,9 @@ returns c =
     let w = c.requires.fresh in
     let n = length a.max.now in
     let z = fresh_sized (length a.max.now) a.len.now a.dot.now a.sum_x.now a.sum_y.now a.x_mean.now a.sx2.now
-        c.requires.fresh in
+    c.requires.fresh in
     let squares = fresh_squares (length a.max.now) a.len.now a.dot.now a.sum_x.now a.sum_y.now a.x_mean.now
-        a.sx2.now c.requires.fresh in
+    a.sx2.now c.requires.fresh in
     let len = c.add_peptides.new.len in
     let dot = c.add_peptides.new.dot in
     let sum_x = c.add_peptides.new.sum_x in

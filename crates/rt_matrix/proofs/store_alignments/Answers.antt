@@ -35,7 +35,7 @@ loop-f-preserved c =
     let made_long : length made ≡ files = length_from a.max.now sums a.sx2.now sums_long c.requires.1 in
     let held =
     columns a.max_rt.now a.slope.now a.intercept.now a.used.now a.max_rt_exact.now a.slope_exact.now
-        a.intercept_exact.now in
+    a.intercept_exact.now in
     let now_held =
     columns l.max_rt l.slope l.intercept l.used l.max_rt_exact l.slope_exact l.intercept_exact in
     let h : f < files = c.loop-f-test.true in
@@ -71,6 +71,6 @@ returns c =
     length_from a.max.now sums a.sx2.now sums_long c.requires.1 in
     let held =
     columns a.max_rt.now a.slope.now a.intercept.now a.used.now a.max_rt_exact.now a.slope_exact.now
-        a.intercept_exact.now in
+    a.intercept_exact.now in
     let l = length_records held files c.requires.2 in
     c.loop-f.invariant.2 ∙ up_to_all _ _ _ _ (omega arith) ∙ zipped_over _ _ (l ∙ sym made_long)

@@ -91,11 +91,11 @@ loop-i-preserved-then-trains c =
     let rest = training_from a.file.now a.peptide.now a.rt.now a.label.now a.q.now (i + 1) in
     let f = below_at a.files a.file.now i c.requires.file_value.0 c.loop-i-test.true in
     let cons = training_cons a.file.now a.peptide.now a.rt.now a.label.now a.q.now i c.loop-i-test.true
-        (omega arith) (omega arith) (omega arith) (omega arith)
+    (omega arith) (omega arith) (omega arith) (omega arith)
     ∙ ap (λ (m : Bool). cond m (o ∷ rest) rest)
-        (sym (trained (goal.at.loop-i-preserved-then-trains c).After-trains-trains) ∙ c.if-trains.true) in
+    (sym (trained (goal.at.loop-i-preserved-then-trains c).After-trains-trains) ∙ c.if-trains.true) in
     let cell = c.earliest.ensures ∙ ap (λ (k : ℕ). smaller (decode (get_or c.loop-i.cells k nan)) o.rt)
-        c.place-at.ensures in (
+    c.place-at.ensures in (
       omega arith,
       simp length-set c.loop-i.invariant.1,
       λ p g h l.
@@ -114,11 +114,14 @@ loop-i-preserved c =
     let o = row_at a.file.now a.peptide.now a.rt.now i in
     let rest = training_from a.file.now a.peptide.now a.rt.now a.label.now a.q.now (i + 1) in
     let cons = training_cons a.file.now a.peptide.now a.rt.now a.label.now a.q.now i c.loop-i-test.true
-        (omega arith) (omega arith) (omega arith) (omega arith)
+    (omega arith) (omega arith) (omega arith) (omega arith)
     ∙ ap (λ (m : Bool). cond m (o ∷ rest) rest)
-        (sym (trained (goal.at.loop-i-preserved c).After-trains-trains) ∙ c.if-trains.false) in
-    (omega arith, c.loop-i.invariant.1, λ p g h l. ap (λ (os : List Obs). carried c.loop-i.cells a.files os p g)
-        (sym cons) ∙ c.loop-i.invariant.2 p g h l)
+    (sym (trained (goal.at.loop-i-preserved c).After-trains-trains) ∙ c.if-trains.false) in (
+      omega arith,
+      c.loop-i.invariant.1,
+      λ p g h l. ap (λ (os : List Obs). carried c.loop-i.cells a.files os p g)
+          (sym cons) ∙ c.loop-i.invariant.2 p g h l,
+    )
 
 pub returns : goal.returns
 returns c =
@@ -130,4 +133,4 @@ returns c =
     (training_from a.file.now a.peptide.now a.rt.now a.label.now a.q.now 0)
     c.loop-i.invariant.1
     (λ p f h l. ap (λ (os : List Obs). carried c.loop-i.cells a.files os p f) (sym none_left) ∙ c.loop-i.invariant.2
-        p f h l)
+    p f h l)

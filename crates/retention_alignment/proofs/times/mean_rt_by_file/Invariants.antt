@@ -14,8 +14,8 @@ invariant-loop-i l =
     × (length l.cells ≡ l.peptides * l.files)
     ×
     ((p f : ℕ) → p < l.peptides → f < l.files → carried l.cells l.files
-        (training_from l.file l.peptide l.rt l.label l.q l.i) p f ≡ min_rt p f
-        (training_from l.file l.peptide l.rt l.label l.q 0))
+    (training_from l.file l.peptide l.rt l.label l.q l.i) p f ≡ min_rt p f
+    (training_from l.file l.peptide l.rt l.label l.q 0))
 
 abbrev pub decreases-loop-i : goal.decreases-loop-i
 decreases-loop-i l = length l.file - l.i

@@ -21,7 +21,7 @@ loop-f-preserved-then-cell c =
     let inv = c.loop-f.invariant in
     let f = c.loop-f.f in
     let here = left_present a.max.now a.row.now f (omega arith) (omega arith)
-        (ne_true (get_or a.row.now f nan) c.if-cell.true) in (
+    (ne_true (get_or a.row.now f nan) c.if-cell.true) in (
       omega arith,
       omega arith,
       ap (λ (v : Float). sum_from (add binary64 c.loop-f.sum v) (left a.max.now a.row.now (f + 1)))
@@ -35,7 +35,7 @@ loop-f-preserved c =
     let inv = c.loop-f.invariant in
     let f = c.loop-f.f in
     let here = left_absent a.max.now a.row.now f (omega arith) (omega arith)
-        (ne_false (get_or a.row.now f nan) c.if-cell.false) in (
+    (ne_false (get_or a.row.now f nan) c.if-cell.false) in (
       omega arith,
       omega arith,
       ap (sum_from c.loop-f.sum) (sym here) ∙ inv.2,

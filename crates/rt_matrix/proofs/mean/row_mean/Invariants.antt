@@ -17,8 +17,8 @@ left ms row f = present (shares_of (drop f ms) (drop f row))
 abbrev pub invariant-loop-f : goal.invariant-loop-f
 invariant-loop-f l =
     (l.f ≤ length l.row) × (l.n ≤ l.f) ×
-        (sum_from l.sum (left l.max l.row l.f) ≡ sum_from zero64 (left l.max l.row 0)) ×
-        (l.n + length (left l.max l.row l.f) ≡ length (left l.max l.row 0))
+    (sum_from l.sum (left l.max l.row l.f) ≡ sum_from zero64 (left l.max l.row 0)) ×
+    (l.n + length (left l.max l.row l.f) ≡ length (left l.max l.row 0))
 
 abbrev pub decreases-loop-f : goal.decreases-loop-f
 decreases-loop-f l = length l.row - l.f

@@ -36,9 +36,12 @@ slice_bounds-add_peptide-end c = (here (goal.at.slice_bounds-add_peptide-end c).
 pub add_peptide-requires : goal.add_peptide-requires
 add_peptide-requires c =
     let ms = c.args.max.now in
-    let row = (here (goal.at.add_peptide-requires c).In-loop-left).0 in
-    (length-take-le _ _ (simp length-drop (omega arith)) ∙ add-sub_cancel_left c.loop-left.at (length ms),
-        c.requires.1, c.loop-left.invariant.1, c.requires.3)
+    let row = (here (goal.at.add_peptide-requires c).In-loop-left).0 in (
+      length-take-le _ _ (simp length-drop (omega arith)) ∙ add-sub_cancel_left c.loop-left.at (length ms),
+      c.requires.1,
+      c.loop-left.invariant.1,
+      c.requires.3,
+    )
 
 pub loop-left-preserved : goal.loop-left-preserved
 loop-left-preserved c =
@@ -47,13 +50,13 @@ loop-left-preserved c =
     let cells = c.args.cells.now in
     let now_at = spreads_of c.args.x_mean.now c.loop-left.sx2 in
     let e = c.add_peptide.ensures ∙ ap
-        (λ (n : ℕ). after_row add_square now_at (shares_of ms (take n (drop c.loop-left.at cells))))
-        (add-sub_cancel_left c.loop-left.at (length ms)) in (
+    (λ (n : ℕ). after_row add_square now_at (shares_of ms (take n (drop c.loop-left.at cells))))
+    (add-sub_cancel_left c.loop-left.at (length ms)) in (
       (here (goal.at.loop-left-preserved c).In-loop-left).1,
       omega arith,
       ap
           (λ (l : List Spread). foldl (after_row add_square) l
-              (row_shares ms (c.loop-left.left - 1) (drop (c.loop-left.at + length ms) cells))) e
+          (row_shares ms (c.loop-left.left - 1) (drop (c.loop-left.at + length ms) cells))) e
           ∙ ap (foldl (after_row add_square) now_at)
           (sym (rows_left ms cells c.loop-left.at c.loop-left.left c.loop-left-test.true))
           ∙ inv.2,
@@ -64,5 +67,5 @@ returns c =
     let a = c.args in
     sym
     (ap (foldl (after_row add_square) (spreads_of a.x_mean.now c.loop-left.sx2))
-        (rows_done a.max.now a.cells.now c.loop-left.at c.loop-left.left (omega arith)))
+    (rows_done a.max.now a.cells.now c.loop-left.at c.loop-left.left (omega arith)))
     ∙ c.loop-left.invariant.2

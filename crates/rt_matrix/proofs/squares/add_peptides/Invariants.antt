@@ -13,7 +13,7 @@ invariant-loop-left l =
     × (length l.sx2 ≡ length l.max)
     ×
     (foldl (after_row add_square) (spreads_of l.x_mean l.sx2) (row_shares l.max l.left (drop l.at l.cells)) ≡ foldl
-        (after_row add_square) (spreads_of l.x_mean l.initial.sx2) (row_shares l.max l.peptides l.cells))
+    (after_row add_square) (spreads_of l.x_mean l.initial.sx2) (row_shares l.max l.peptides l.cells))
 
 abbrev pub decreases-loop-left : goal.decreases-loop-left
 decreases-loop-left l = l.left

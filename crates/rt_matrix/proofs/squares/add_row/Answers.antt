@@ -31,7 +31,7 @@ loop-f-preserved c =
           (at_cell add_square y) _ shares f (inv.2 y) c.add_cell.result none
           (omega (arith, length_shares a.max.now a.row.now c.requires.0))
           (c.add_cell.ensures y ∙ ap₂ (at_cell add_square y) old
-              (sym (shares_at a.max.now a.row.now f (omega arith) (omega arith)))),
+          (sym (shares_at a.max.now a.row.now f (omega arith) (omega arith)))),
     )
 
 pub returns : goal.returns

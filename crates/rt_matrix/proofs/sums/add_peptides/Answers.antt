@@ -57,10 +57,10 @@ loop-left-preserved c =
     c.add_peptide.ensures
     ∙ ap
     (λ (n : ℕ). after_row add_point (sums_of c.loop-left.len c.loop-left.dot c.loop-left.sum_x c.loop-left.sum_y)
-        (shares_of ms (take n (drop c.loop-left.at cells))))
+    (shares_of ms (take n (drop c.loop-left.at cells))))
     (add-sub_cancel_left c.loop-left.at (length ms)) in
     let z : Sized (length ms) c.add_peptide.new.len c.add_peptide.new.dot c.add_peptide.new.sum_x
-        c.add_peptide.new.sum_y =
+    c.add_peptide.new.sum_y =
     record { len = omega arith; dot = omega arith; sum_x = omega arith; sum_y = omega arith } in
     let counted =
     one_more (length ms) c.loop-left.len c.loop-left.dot c.loop-left.sum_x c.loop-left.sum_y inv.1 _ _ _ _ z
@@ -70,7 +70,7 @@ loop-left-preserved c =
       λ k. omega (arith, inv.2 k, counted k),
       ap
           (λ (l : List Sums). foldl (after_row add_point) l
-              (row_shares ms (c.loop-left.left - 1) (drop (c.loop-left.at + length ms) cells))) e
+          (row_shares ms (c.loop-left.left - 1) (drop (c.loop-left.at + length ms) cells))) e
           ∙ ap
           (foldl (after_row add_point) (sums_of c.loop-left.len c.loop-left.dot c.loop-left.sum_x c.loop-left.sum_y))
           (sym (rows_left ms cells c.loop-left.at c.loop-left.left c.loop-left-test.true))
@@ -81,5 +81,5 @@ pub returns : goal.returns
 returns c =
     sym
     (ap (foldl (after_row add_point) (sums_of c.loop-left.len c.loop-left.dot c.loop-left.sum_x c.loop-left.sum_y))
-        (rows_done c.args.max.now c.args.cells.now c.loop-left.at c.loop-left.left (omega arith)))
+    (rows_done c.args.max.now c.args.cells.now c.loop-left.at c.loop-left.left (omega arith)))
     ∙ c.loop-left.invariant.3

@@ -16,8 +16,8 @@ invariant-loop-left l =
     × ((k : ℕ) → get_or l.len k 0 + l.left < 2 ^ 32)
     ×
     (foldl (after_row add_point) (sums_of l.len l.dot l.sum_x l.sum_y) (row_shares l.max l.left (drop l.at l.cells))
-        ≡ foldl (after_row add_point) (sums_of l.initial.len l.initial.dot l.initial.sum_x l.initial.sum_y)
-        (row_shares l.max l.peptides l.cells))
+    ≡ foldl (after_row add_point) (sums_of l.initial.len l.initial.dot l.initial.sum_x l.initial.sum_y)
+    (row_shares l.max l.peptides l.cells))
 
 abbrev pub decreases-loop-left : goal.decreases-loop-left
 decreases-loop-left l = l.left
