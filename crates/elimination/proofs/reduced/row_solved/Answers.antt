@@ -1,6 +1,7 @@
 -- `elimination::reduced::row_solved` meets its contract. The loop's invariant: what is left of the row gives what the
 -- row gives.
-use mathlib.Core.Path.{refl}
+use mathlib.Core.Path.{refl, ap}
+use mathlib.Core.Bool.{not}
 use mathlib.Core.List.{List}
 use Prim.Native.Nat.{suc, ◌≤◌, ◌<◌}
 use native.Mathlib.Omega.{arith}
@@ -22,7 +23,7 @@ returns-then-not-cell_solved c =
     let h : c.loop-j.j < length row = omega arith in
     test_fails r.result _ (row_solved c.args.i (suc c.loop-j.j) (drop (suc c.loop-j.j) row)) _
     (row_solved c.args.i 0 row) r.ensures (row_solved_cell c.args.i c.loop-j.j row h) c.loop-j.invariant.1
-    c.if-not-cell_solved.true-raw
+    (ap not c.if-not-cell_solved.true)
 
 pub loop-j-preserved : goal.loop-j-preserved
 loop-j-preserved c =
@@ -33,7 +34,7 @@ loop-j-preserved c =
       rw add-one
           (test_holds r.result _ (row_solved c.args.i (suc c.loop-j.j) (drop (suc c.loop-j.j) row)) _
           (row_solved c.args.i 0 row) r.ensures (row_solved_cell c.args.i c.loop-j.j row h) c.loop-j.invariant.1
-          c.if-not-cell_solved.false-raw),
+          (ap not c.if-not-cell_solved.false)),
     )
 
 pub returns : goal.returns

@@ -18,7 +18,7 @@ loop-j-preserved c =
     let l = c.loop-j in (
       omega arith,
       below_more _ _ l.invariant.1 (record {
-        held = c.shared_slice_known-in-loop-j-1.given l.j;
+        held = c.type_inv.row l.j;
         plain = not-false _ (sym c.is_minus_zero.ensures ∙ c.if-is_minus_zero.false);
       }),
     )
