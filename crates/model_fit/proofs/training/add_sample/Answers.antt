@@ -70,7 +70,7 @@ add_row_listed-requires c =
     sample_listed D row a.y places values (wide_design a.model a.letters.now a.log a.mass a.charge) l.ensures.nonzeros in
     record {
       workspace = (rw c.order-d.ensures c.requires.workspace, rw c.order-d.ensures c.requires.row_starts);
-      values_value = sym c.is_finite.ensures ∙ c.if-not-is_finite.false;
+      values_value = cc;
       listed_row = (extended (sample_from row a.y), rw c.order-d.ensures e);
     }
 

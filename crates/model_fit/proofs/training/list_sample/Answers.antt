@@ -23,7 +23,7 @@ returns-then-y-clause-nonzeros c =
     let places : List ℕ = c.list-n.new.places in
     let values : List Float = c.list-n.new.values in
     let m = nothing_more row (take n places) (take n values) a.y c.list-n.ensures.nonzeros
-    (sym (is_zero_lem a.y) ∙ c.if-y.true) in record {
+    (cc (is_zero_lem a.y)) in record {
       places_are = take-set-le n places n c.order-d.result (omega arith) ∙ m.places_are;
       values_are = take-set-le n values n a.y (omega arith) ∙ m.values_are;
     }
@@ -42,7 +42,7 @@ returns-clause-nonzeros c =
     c.order-d.ensures ∙ sym (wide_design a.model a.letters.now a.log a.mass a.charge) in
     let few = c.list-n.ensures.upper_bound in
     let m = one_listed row (take n places) (take n values) a.y c.list-n.ensures.nonzeros
-    (sym (is_zero_lem a.y) ∙ c.if-y.false) in record {
+    (cc (is_zero_lem a.y)) in record {
       places_are =
           rw (add-one n)
           (take-suc-set places n d (omega (arith, few, c.requires.model_in_bounds.0, c.list-n.auto.places)))

@@ -60,7 +60,7 @@ predict_listed-requires c =
     (omega (arith, head_order a.model, l))
     (wide_design a.model a.letters.now a.log a.mass a.charge ∙ sym l) o.ensures.head_after o.ensures.nonzeros in
     record {
-      beta_value = sym c.requires.beta_len.1 ∙ c.if-not-finite.false;
+      beta_value = cc;
       split_row = (row, parted);
     }
 
