@@ -33,7 +33,7 @@ write_aligned-requires c =
     omega (
       arith,
       ap (λ (f : Printed). f.used) (printed_at ms ss is us p.2 p.3 p.4 k (omega (arith, l, long))),
-      c.shared_slice_known-4-1.given k,
+      c.type_inv.used k,
     ) in
     omega (
       arith,

@@ -2,7 +2,7 @@
 -- writing all of them gives, and a time takes 17 bytes.
 use mathlib.Core.Path.{subst}
 use mathlib.Core.List.{List}
-use Prim.Native.Nat.{ℕ, ◌-◌}
+use Prim.Native.Nat.{ℕ}
 use native.Mathlib.Omega.{arith}
 use lib.ListN.{get_or}
 use lib.Ieee.{nan}
@@ -26,15 +26,12 @@ loop-i-preserved c =
       omega arith,
       omega (arith, c.loop-i.invariant.1, c.write_float-next.ensures.next, float_length aligned_key (get_or ts i nan)),
       writing_more _ _ _ _ _ (float_line aligned_key (get_or ts i nan)) _ _ _
-          (subst (λ (x : List ℕ). Writing c.args.out-1.now c.args.at (aligned_text ts) c.loop-i.out-1 c.loop-i.next x) (aligned_next ts i c.loop-i-test.true) c.loop-i.invariant.2)
+          (subst (λ (x : List ℕ). Writing c.args.out.now c.args.at (aligned_text ts) c.loop-i.out c.loop-i.next x) (aligned_next ts i c.loop-i-test.true) c.loop-i.invariant.2)
           c.write_float-next.ensures,
     )
-
-pub shape_of-out : goal.shape_of-out
-shape_of-out c = c.loop-i.invariant.2.long
 
 pub returns : goal.returns
 returns c =
     let ts = c.args.aligned.now in
     writing_done _ _ _ _ _
-    (subst (λ (x : List ℕ). Writing c.args.out-1.now c.args.at (aligned_text ts) c.loop-i.out-1 c.loop-i.next x) (aligned_end ts c.loop-i.i c.loop-i-test.false) c.loop-i.invariant.2)
+    (subst (λ (x : List ℕ). Writing c.args.out.now c.args.at (aligned_text ts) c.loop-i.out c.loop-i.next x) (aligned_end ts c.loop-i.i c.loop-i-test.false) c.loop-i.invariant.2)

@@ -8,7 +8,9 @@ use Rattle.align_output.proofs.write_aligned.Given as goal
 
 abbrev pub invariant-loop-i : goal.invariant-loop-i
 invariant-loop-i l =
-    (i ≤ length l.aligned) × (l.i ≤ l.at + 17 * i) × Writing l.initial.out l.at (aligned_text l.aligned) l.next l.i (aligned_text (drop i l.aligned))
+    (l.i ≤ length l.aligned)
+    × (l.next ≤ l.at + 17 * l.i)
+    × Writing l.initial.out l.at (aligned_text l.aligned) l.out l.next (aligned_text (drop l.i l.aligned))
 
 abbrev pub decreases-loop-i : goal.decreases-loop-i
-decreases-loop-i l = length l.aligned - i
+decreases-loop-i l = length l.aligned - l.i

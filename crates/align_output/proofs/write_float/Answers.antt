@@ -12,5 +12,5 @@ unfolding float_line
 returns c =
     let a = c.args in
     subst
-    (λ (v : ℕ). Wrote a.out-1.now a.at (line a.key.now (hex_of 8 v)) c.write_hex_line.result c.write_hex_line.new.out)
+    (λ (v : ℕ). Wrote a.out.now a.at (line a.key.now (hex_of 8 v)) c.write_hex_line.result c.write_hex_line.new.out)
     c.bits32.ensures c.write_hex_line.ensures
