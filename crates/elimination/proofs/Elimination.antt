@@ -2,7 +2,7 @@
 use mathlib.Core.Path.{◌≡◌, refl, sym, ap, ◌∙◌}
 use mathlib.Core.List.{List, [], ◌∷◌, map}
 use mathlib.Core.Bool.{Bool, true, false, not, ◌&&◌, true≢false, false≢true}
-use Prim.Native.Nat.{ℕ, zero, suc, ◌+◌, ◌≤◌, ◌<◌}
+use Prim.Native.Nat.{ℕ, suc, ◌+◌, ◌≤◌, ◌<◌}
 use native.Mathlib.Omega.{arith}
 use lib.ListN.{length, get_or, take, drop, length-drop, length-map}
 use lib.Seq.{drop-cons}
@@ -120,7 +120,8 @@ module _ (left k h : ℕ) (rows : List (List Float)) where
 -- ---- the test of the left side, cell by cell and row by row
 
 pub row_solved_cell : (i j : ℕ) (row : List Float) → j < length row
-    → row_solved i j (drop j row) ≡ (cell_solved (eqb i j) (get_or row j nan) && row_solved i (suc j) (drop (suc j) row))
+    → row_solved i j (drop j row)
+    ≡ (cell_solved (eqb i j) (get_or row j nan) && row_solved i (suc j) (drop (suc j) row))
 unfolding row_solved
 row_solved_cell i j row h = rw (drop-cons row j nan h) refl
 

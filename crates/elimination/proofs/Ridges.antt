@@ -27,7 +27,8 @@ from_more zero eps h = absurd (not-suc-le-zero h)
 from_more (suc k) eps h = by_test (le eps one64) refl (from_more k (mul binary64 eps ten64))
   where
     by_test : (b : Bool) → le eps one64 ≡ b
-        → (length (ridges_from k (mul binary64 eps ten64)) < k → ridges_from (suc k) (mul binary64 eps ten64) ≡ ridges_from k (mul binary64 eps ten64))
+        → (length (ridges_from k (mul binary64 eps ten64)) < k → ridges_from (suc k) (mul binary64 eps ten64)
+        ≡ ridges_from k (mul binary64 eps ten64))
         → ridges_from (suc (suc k)) eps ≡ ridges_from (suc k) eps
     by_test true e rest =
         from_cons (suc k) eps e
@@ -46,7 +47,8 @@ within_first = ltb→lt (length (ridges_from 16 tiny64)) 16 tt
 pub at_most_one : (eps : Float) → Within eps → le eps one64 ≡ true
     → ridges_from 16 eps ≡ eps ∷ ridges_from 16 (mul binary64 eps ten64)
 at_most_one eps h e =
-    let rest : length (ridges_from 15 (mul binary64 eps ten64)) < 15 = le_of_suc-le-suc (rw (from_cons 15 eps e) at h) in
+    let rest : length (ridges_from 15 (mul binary64 eps ten64)) < 15 =
+    le_of_suc-le-suc (rw (from_cons 15 eps e) at h) in
     from_cons 15 eps e ∙ ap {B = List Float} (λ r. eps ∷ r) (sym (from_more 15 (mul binary64 eps ten64) rest))
 
 pub above_one : (eps : Float) → le eps one64 ≡ false → ridges_from 16 eps ≡ []

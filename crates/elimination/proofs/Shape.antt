@@ -26,5 +26,6 @@ module _ {A : Type 0} {n w : ℕ} {cells : List A} where
   shape_kept s e = record { order = s.order; wide = s.wide; left = s.left; count = e ∙ s.count }
 
 -- the front of a copy of a row
-pub copy_length : {A : Type 0} (w : ℕ) (copy : List A) → w ≤ max_width → length copy ≡ max_width → length (take w copy) ≡ w
+pub copy_length : {A : Type 0} (w : ℕ) (copy : List A) → w ≤ max_width → length copy ≡ max_width
+    → length (take w copy) ≡ w
 copy_length w copy h e = length-take-le w copy (omega (arith, h, e))

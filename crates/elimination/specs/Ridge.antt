@@ -1,5 +1,5 @@
 -- The series of ridges, and the first that solves a system. Definitions only.
-use Rattle.std.specs.Prelude.{List, [], ◌∷◌, map, Bool, true, false, ℕ, zero, suc, drop, pos, Float}
+use Rattle.std.specs.Prelude.{List, [], ◌∷◌, map, true, false, ℕ, zero, suc, drop, pos, Float}
 use Rattle.std.specs.Float.{fin, binary64}
 use Rattle.std.specs.Float.Ieee.{mul, le}
 use Rattle.matrix.specs.Rows.{flat}

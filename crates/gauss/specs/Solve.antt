@@ -1,6 +1,6 @@
 -- What a call of `solve` answers and leaves behind. Definitions only.
 use Rattle.std.specs.Prelude.{List, [], ◌∷◌, ◌&&◌, ◌≡◌, ℕ, ◌+◌, ◌*◌, ◌≤◌, length, replicate, leb, eqb, Float}
-use Rattle.params.specs.Slice.{Held, Change, change, Slice}
+use Rattle.params.specs.Slice.{Held, MutHeld, Change, change, Slice, MutSlice}
 use Rattle.status.specs.Status.{bad_lengths, past_limit, too_short, not_solved, first_failing}
 use Rattle.status.specs.Limits.{within_system_limits, max_order, max_columns}
 use Rattle.status.specs.Told.{Told, gives, only, if_accepted, told_for}
@@ -30,14 +30,14 @@ pub record Slices : Type 0 where
 abbrev pub system_at : (left right : Held Float) (n c : ℕ) → System
 system_at left right n c = record { left = left.now; right = right.now; n = n; c = c }
 
-abbrev pub slices_at : (workspace solution : Held Float) → Slices
+abbrev pub slices_at : (workspace solution : MutHeld Float) → Slices
 slices_at workspace solution = record { workspace = workspace.now; solution = solution.now }
 
 -- in an `ensures`: what is read as the call begins, and what is written as it begins and as it returns
 abbrev pub system_of : (left right : Slice Float) (n c : ℕ) → System
 system_of left right n c = system_at left.entry right.entry n c
 
-abbrev pub slices_of : (workspace solution : Slice Float) → Change Slices
+abbrev pub slices_of : (workspace solution : MutSlice Float) → Change Slices
 slices_of workspace solution =
     change (slices_at workspace.entry solution.entry) (slices_at workspace.exit solution.exit)
 

@@ -3,7 +3,6 @@
 use mathlib.Core.Path.{◌≡◌, refl, sym, ap, ◌∙◌}
 use mathlib.Core.Bool.{Bool, true, false, cond, ◌&&◌}
 use mathlib.Core.List.{List, [], ◌∷◌, ◌++◌, map, zip_with}
-use mathlib.Core.Logic.{⊎_elim}
 use Prim.Native.Nat.{ℕ, ◌≤◌}
 use native.Mathlib.Omega.{arith}
 use lib.Dec.{eqb, leb}
@@ -11,8 +10,6 @@ use lib.Ieee.{Float}
 use lib.ListN.{length, take, drop, replicate, length-append, length-drop, length-replicate}
 use lib.Seq.{length-take-le, take_at}
 use borrow.Author.Tests.{leb-true}
-use denote.Enum.Declared.{tag_of}
-use types.Run.{OneOf}
 use Rattle.params.specs.Slice.{Change, change}
 use Rattle.float.specs.Number.{zero64}
 use Rattle.status.specs.Status.{accepted}
@@ -23,6 +20,7 @@ use Rattle.embedding.specs.Design.{order_of}
 use Rattle.embedding.specs.declared.Model.{Model}
 use Rattle.regression.specs.Regression.{Fit, sse, told_by as outcome_told}
 use Rattle.regression.specs.Workspace.{FitSlices, workspace_cells}
+use Rattle.regression.specs.declared.Sums.{Sums}
 use Rattle.regression.specs.declared.FitOutcome.{FitOutcome}
 use Rattle.regression.specs.declared.FitOutcome.TheVariants.{Solved, NoTrainingRows, NotSolved}
 use Rattle.model_fit.specs.Input.{Input, queries, fit_room}
@@ -31,7 +29,6 @@ use Rattle.model_fit.specs.Shared.{FittedBy, outcome_of, SolvedRows}
 use Rattle.model_fit.specs.declared.training.Solving.{Solving}
 use Rattle.model_fit.specs.declared.training.Solving.TheVariants.{Solved as SolvedWith, NotSolved as Unsolved}
 use Rattle.model_fit.specs.declared.training.Solving.TheVariants.{NoTrainingRows as NoRows}
-use Rattle.model_fit.specs.contracts.training.Solving.{the_type}
 use Rattle.matrix.specs.Lists.{overwritten}
 use Rattle.matrix.proofs.Lists.{overwrite_part, zip_with_append, zip_with_none}
 use Rattle.models.specs.declared.FitAnswer.{FitAnswer}
@@ -152,16 +149,15 @@ solved_within model i k d s t r ek ed hk hd kept f =
 
 -- ---- by how far it was solved
 
--- a fit that is solved, and one that isn't, by the keys of a `match`
-pub is_solved_lem : (r : Solving) (errors : Float) → OneOf (0 ∷ []) (tag_of the_type r)
+-- a fit that is solved, and one that isn't, as the arms of a `match` say it
+pub is_solved_lem : (r : Solving) (ridge : Float) (sums : Sums) (errors : Float) → r ≡ SolvedWith ridge sums
     → is_solved (outcome_of r errors) ≡ true
-is_solved_lem (SolvedWith ridge sums) errors h = refl
-is_solved_lem NoRows errors h = absurd (omega arith)
-is_solved_lem Unsolved errors h = absurd (omega arith)
+is_solved_lem r ridge sums errors e = rw e
 
-pub not_solved_lem : (r : Solving) (errors : Float) → OneOf (1 ∷ 2 ∷ []) (tag_of the_type r)
+pub not_solved_lem : (r : Solving) (errors : Float)
+    → ((ridge : Float) (sums : Sums) → r ≡ SolvedWith ridge sums → ⊥)
     → is_solved (outcome_of r errors) ≡ false
-not_solved_lem (SolvedWith ridge sums) errors h = ⊎_elim (λ e. absurd (omega arith)) (λ e. absurd (omega arith)) h
+not_solved_lem (SolvedWith ridge sums) errors h = absurd (h ridge sums refl)
 not_solved_lem NoRows errors h = refl
 not_solved_lem Unsolved errors h = refl
 

@@ -164,7 +164,8 @@ module _ (ext acc₀ : List Float) where
 
         -- another cell is as it was
         other : (i c : ℕ) → Stored w i c → ((i ≡ j) × (c ≡ C) → ⊥) → cell added i c ≡ cell acc i c
-        other i c t f = get_or-set_other acc (cell_at w j C) (cell_at w i c) _ nan (λ e. f (cells_apart w i c j C t s e))
+        other i c t f =
+            get_or-set_other acc (cell_at w j C) (cell_at w i c) _ nan (λ e. f (cells_apart w i c j C t s e))
 
         this : cell added j C ≡ gains j C
         this =
@@ -302,10 +303,12 @@ module _ (ext acc₀ : List Float) where
             begun = one.begun;
           } in
           let all : Reached J F K (suc p + n) c
-          (columns_added rows (take n (drop (suc p) places)) (take n (drop (suc p) values)) (column_added rows q v acc)) =
+          (columns_added rows (take n (drop (suc p) places)) (take n (drop (suc p) values))
+          (column_added rows q v acc)) =
           turns n J F K (suc p) c rows (column_added rows q v acc) (omega arith) rs l low in
           let first : columns_added rows (take (suc n) (drop p places)) (take (suc n) (drop p values)) acc
-          ≡ columns_added rows (take n (drop (suc p) places)) (take n (drop (suc p) values)) (column_added rows q v acc) =
+          ≡ columns_added rows (take n (drop (suc p) places)) (take n (drop (suc p) values))
+          (column_added rows q v acc) =
           ap₂ (λ (ps : List ℕ) (vs : List Float). columns_added rows (take (suc n) ps) (take (suc n) vs) acc)
           (drop-cons places p 0 h₁) (drop-cons values p nan h₂) in
           subst (λ (i : ℕ). Reached J F K i c (columns_added rows (take (suc n) (drop p places))
@@ -367,7 +370,8 @@ module _ (ext acc₀ : List Float) where
       module _ (starts : List ℕ) (firsts : RowStarts (w - 1) starts) where
         row_at_lem : (B L p : ℕ) → p < length places → Left 0 ext places p B → get_or places p 0 < L
             → get_or places p 0 + 1 < w
-            → RowAt B L (get_or places p 0) (get_or starts (get_or places p 0) 0 - get_or places p 0, get_or values p nan)
+            → RowAt B L (get_or places p 0)
+            (get_or starts (get_or places p 0) 0 - get_or places p 0, get_or values p nan)
         row_at_lem B L p h l b r =
             let q : ℕ = get_or places p 0 in
             let t : Next 0 B ext q (drop (suc p) places) = next_left 0 ext places p B l h in
@@ -422,7 +426,8 @@ module _ (ext acc₀ : List Float) where
               firsts.at (get_or places p 0) (omega arith)
               ∙ ap (λ (v : ℕ). falling_start v (get_or places p 0)) {x = w - 1 + 1} {y = w} (omega arith)
 
-          pub in_starts : (get_or places p 0 < length starts) × (get_or places p 0 ≤ get_or starts (get_or places p 0) 0)
+          pub in_starts : (get_or places p 0 < length starts)
+              × (get_or places p 0 ≤ get_or starts (get_or places p 0) 0)
           in_starts = (
             omega (arith, firsts.enough),
             omega (arith, start_is, start_far w (get_or places p 0) (omega arith)),
@@ -539,7 +544,8 @@ module _ (ext acc₀ : List Float) where
 
           rows_are : (i : ℕ) → i < 4 → place i < place 3 + 1 → Rows (get_or places m 0) (suc (place i)) (rows (suc i))
           rows_are i l k =
-              rows_at_lem i m (get_or places m 0) (suc (place i)) (omega arith) (here m (omega arith)) refl (omega arith)
+              rows_at_lem i m (get_or places m 0) (suc (place i)) (omega arith) (here m (omega arith))
+              refl (omega arith)
 
           -- column i of the corner
           corner : (i : ℕ) (acc : List Float) → i < 3 → place i < place 3 + 1
@@ -586,23 +592,27 @@ module _ (ext acc₀ : List Float) where
             factor_at : (i : ℕ) → i < 4 → (get_or (rows 4) i (0, nan)).1 ≡ value i
             factor_at zero l = ap (λ (k : ℕ). get_or values k nan) {x = m} {y = m + 0} (omega arith)
             factor_at (suc zero) l = ap (λ (k : ℕ). get_or values k nan) {x = suc m} {y = m + 1} (omega arith)
-            factor_at (suc (suc zero)) l = ap (λ (k : ℕ). get_or values k nan) {x = suc (suc m)} {y = m + 2} (omega arith)
+            factor_at (suc (suc zero)) l =
+                ap (λ (k : ℕ). get_or values k nan) {x = suc (suc m)} {y = m + 2} (omega arith)
             factor_at (suc (suc (suc i))) l =
                 let z : i ≡ 0 = omega arith in
                 rw z (ap (λ (k : ℕ). get_or values k nan) {x = suc (suc (suc m))} {y = m + 3} (omega arith))
 
             base_at : (i : ℕ) → i < 4 → (get_or (rows 4) i (0, nan)).0 ≡ get_or starts (place i) 0 - place i
             base_at zero l =
-                ap (λ (k : ℕ). get_or starts (get_or places k 0) 0 - get_or places k 0) {x = m} {y = m + 0} (omega arith)
+                ap (λ (k : ℕ). get_or starts (get_or places k 0) 0 - get_or places k 0)
+                {x = m} {y = m + 0} (omega arith)
             base_at (suc zero) l =
-                ap (λ (k : ℕ). get_or starts (get_or places k 0) 0 - get_or places k 0) {x = suc m} {y = m + 1} (omega arith)
+                ap (λ (k : ℕ). get_or starts (get_or places k 0) 0 - get_or places k 0)
+                {x = suc m} {y = m + 1} (omega arith)
             base_at (suc (suc zero)) l =
                 ap (λ (k : ℕ). get_or starts (get_or places k 0) 0 - get_or places k 0) {x = suc (suc m)} {y = m + 2}
                 (omega arith)
             base_at (suc (suc (suc i))) l =
                 let z : i ≡ 0 = omega arith in
                 rw z
-                (ap (λ (k : ℕ). get_or starts (get_or places k 0) 0 - get_or places k 0) {x = suc (suc (suc m))} {y = m + 3}
+                (ap (λ (k : ℕ). get_or starts (get_or places k 0) 0 - get_or places k 0)
+                {x = suc (suc (suc m))} {y = m + 3}
                 (omega arith))
 
             -- the cells that are written lie within the list

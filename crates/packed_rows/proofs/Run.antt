@@ -84,7 +84,8 @@ module _ (ext acc₀ : List Float) (whole : length acc₀ ≡ falling_start (len
 
     -- their values, and that these are not zero
     run_value : (p : ℕ) → p < length places
-        → (get_or values p nan ≡ get_or ext (get_or places p 0) nan) × (is_zero (get_or ext (get_or places p 0) nan) ≡ false)
+        → (get_or values p nan ≡ get_or ext (get_or places p 0) nan)
+        × (is_zero (get_or ext (get_or places p 0) nan) ≡ false)
     run_value p m =
         let c = left_at ext acc₀ whole places values g p (omega arith) in
         let q : ℕ = get_or places p 0 in

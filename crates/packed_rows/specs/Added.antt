@@ -1,6 +1,7 @@
 -- What a sample adds to stored rows by its cells that are not zero: to a cell, to a column of some rows, to cells side
 -- by side; and which rows have gained it. An extended row is a design row and then the target. Definitions only.
-use Rattle.std.specs.Prelude.{◌≡◌, ◌||◌, cond, List, [], ◌∷◌, ℕ, zero, suc, ◌+◌, ◌-◌, ◌*◌, ◌/◌, ◌≤◌, ◌<◌, length, get_or, set, Float}
+use Rattle.std.specs.Prelude.{◌≡◌, ◌||◌, cond, List, [], ◌∷◌, ℕ, zero, suc}
+use Rattle.std.specs.Prelude.{◌+◌, ◌-◌, ◌*◌, ◌/◌, ◌≤◌, ◌<◌, length, get_or, set, Float}
 use Rattle.std.specs.Float.{nan, binary64}
 use Rattle.std.specs.Float.Ieee.{add, mul}
 use Rattle.float.specs.Value.{is_zero}
@@ -30,7 +31,8 @@ column_added (r ∷ rows) c v acc = column_added rows c v (cell_added (r.0 + c) 
 abbrev pub rows_at : (places : List ℕ) (values : List Float) (starts : List ℕ) (n p : ℕ) → List (ℕ × Float)
 rows_at places values starts zero p = []
 rows_at places values starts (suc n) p =
-    (get_or starts (get_or places p 0) 0 - get_or places p 0, get_or values p nan) ∷ rows_at places values starts n (suc p)
+    (get_or starts (get_or places p 0) 0 - get_or places p 0, get_or values p nan)
+    ∷ rows_at places values starts n (suc p)
 
 -- four of them
 abbrev pub rows_of : Four → List (ℕ × Float)

@@ -12,7 +12,8 @@ use lib.Ieee.{Float, nan}
 use Rattle.float.specs.Value.{is_zero}
 use Rattle.matrix.specs.Rows.{flat}
 use Rattle.matrix.specs.Lists.{tabulate, zipped}
-use Rattle.matrix.proofs.Lists.{same_cells, length_tabulate, get_d_tabulate, tabulate_cells, length_zipped, get_d_zipped}
+use Rattle.matrix.proofs.Lists.{same_cells, length_tabulate, get_d_tabulate, tabulate_cells}
+use Rattle.matrix.proofs.Lists.{length_zipped, get_d_zipped}
 use Rattle.packed_rows.specs.Falling.{falling_rows, falling_start, Stored, cell_at}
 use Rattle.regression.specs.Triangle.{add_triangle_by}
 use Rattle.packed_rows.specs.Added.{plus_nonzero, Gained}
@@ -80,7 +81,8 @@ module _ (ext : List Float) where
       row_long : (l : List Float) → length l ≡ falling_start w d → (j : ℕ) → j < d
           → length (get_or (falling_rows w d l) j []) ≡ w - j
       row_long l e j h =
-          falling_row w (falling_rows w d l) j (falling_rows_lem w d l (omega arith)) (omega (arith, length_falling w d l))
+          falling_row w (falling_rows w d l) j (falling_rows_lem w d l (omega arith))
+          (omega (arith, length_falling w d l))
 
       cell_is : (j k : ℕ) → j < d → k < w - j
           → get_or (get_or (falling_rows w d acc) j []) k nan ≡ get_or (more j) k nan

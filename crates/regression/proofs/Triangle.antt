@@ -129,7 +129,8 @@ folded_normal D ss =
 module _ (f : Float → Float → Float → Float) where
   -- to a table of rows
   pub add_tabulate : (n : ℕ) (row_at : ℕ → List Float) (ext : List Float) → n ≤ length ext
-      → add_triangle_by f (tabulate n row_at) ext ≡ tabulate n (λ j. zipped (f (get_or ext j nan)) (row_at j) (drop j ext))
+      → add_triangle_by f (tabulate n row_at) ext
+      ≡ tabulate n (λ j. zipped (f (get_or ext j nan)) (row_at j) (drop j ext))
   unfolding tabulate add_triangle_by
   add_tabulate zero row_at ext h = refl
   add_tabulate (suc n) row_at [] h = absurd (not-suc-le-zero h)
@@ -227,7 +228,8 @@ module _ (D : ℕ) (rows : List (List Float)) (count : length rows ≡ D) (shape
       stored_add =
           ap (λ (t : List (List Float)). mirrored t j k) added
           ∙ ap (λ (t : List Float). get_or t c nan)
-          (get_d_tabulate D (λ n. zipped (plus_scaled (get_or ext n nan)) (get_or rows n []) (drop n ext)) i [] (omega arith))
+          (get_d_tabulate D (λ n. zipped (plus_scaled (get_or ext n nan)) (get_or rows n []) (drop n ext))
+          i [] (omega arith))
           ∙ get_d_zipped (plus_scaled (get_or ext i nan)) (get_or rows i []) (drop i ext) c nan nan
           (omega (arith, row_long i (omega arith))) (simp length-drop (omega arith))
           ∙ ap (plus_scaled (get_or ext i nan) (mirrored rows j k)) (get_or-drop i ext c nan)
@@ -254,7 +256,8 @@ module _ (D : ℕ) (rows : List (List Float)) (count : length rows ≡ D) (shape
     -- in one list, the rows with the sample added are found again
     pub rows_of_add : falling_rows (D + 1) D (flat (add_triangle rows ext)) ≡ add_triangle rows ext
     rows_of_add =
-        ap (λ (n : ℕ). falling_rows (D + 1) n (flat (add_triangle rows ext))) (sym (length_add plus_scaled rows ext ∙ count))
+        ap (λ (n : ℕ). falling_rows (D + 1) n (flat (add_triangle rows ext)))
+        (sym (length_add plus_scaled rows ext ∙ count))
         ∙ falling_flat (D + 1) (add_triangle rows ext) (falling_add plus_scaled (D + 1) rows ext shape)
 
     -- the full rows with a sample added, and the stored rows with it added, unfolded: the same, whatever was stored

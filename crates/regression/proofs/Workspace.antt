@@ -118,7 +118,8 @@ module _ (D : ℕ) where
         let blank : List Float = replicate (workspace_cells D) zero64 in
         let rows : List Float = flat (folded D (normal D ss)) in
         ap (falling_rows (D + 1) D)
-        (drop_at (take (system_length D) blank) rows (system_length D) (length-take-le (system_length D) blank blank_long))
+        (drop_at (take (system_length D) blank) rows (system_length D)
+        (length-take-le (system_length D) blank blank_long))
         ∙ ap (λ (t : List (List Float)). falling_rows (D + 1) D (flat t)) (folded_normal D ss)
         ∙ rows_of_triangle D ss
 

@@ -1,7 +1,7 @@
 -- The workspace of a fit of order D (document 01's work room): how many cells it has, and where the normal equations
 -- lie in it. No other crate knows. Definitions only.
 use Rattle.std.specs.Prelude.{◌≡◌, List, ◌++◌, ℕ, ◌+◌, ◌*◌, ◌/◌, ◌≤◌, length, take, drop, replicate, Float}
-use Rattle.params.specs.Slice.{Change, change, Slice}
+use Rattle.params.specs.Slice.{Change, change, MutSlice}
 use Rattle.status.specs.Limits.{max_order}
 use Rattle.matrix.specs.Rows.{flat}
 use Rattle.float.specs.Number.{zero64}
@@ -54,7 +54,7 @@ pub record FitSlices : Type 0 where
   pub coefficients : List Float
 
 -- as a function's parameters hold them, in an `ensures`
-abbrev pub fit_slices : (workspace beta : Slice Float) → Change FitSlices
+abbrev pub fit_slices : (workspace beta : MutSlice Float) → Change FitSlices
 fit_slices workspace beta =
     change
     (record { workspace = workspace.entry.now; coefficients = beta.entry.now })

@@ -2,11 +2,11 @@
 use mathlib.Core.Path.{◌≡◌, refl, sym, ap, ap₂, ◌∙◌}
 use mathlib.Core.List.{List, [], ◌∷◌, map, foldl, zip_with}
 use mathlib.Core.Option.{Option}
-use Prim.Native.Nat.{ℕ, suc, ◌+◌, ◌*◌, ◌≤◌, ◌<◌}
+use Prim.Native.Nat.{ℕ, ◌+◌, ◌*◌, ◌<◌}
 use native.Mathlib.Omega.{arith}
 use lib.ListN.{length, get_or, replicate, length-replicate, get_or-replicate}
 use lib.Seq.{ext_get_or}
-use lib.Ieee.{Float, nan, binary64, add, mul, div}
+use lib.Ieee.{Float, nan, binary64, mul, div}
 use Rattle.matrix.specs.Rows.{rows_of}
 use Rattle.matrix.proofs.Laws.{Wide, wide_map, wide_rows_of}
 use Rattle.matrix.specs.Lists.{tabulate}
@@ -42,12 +42,11 @@ use Rattle.rt_matrix.specs.Cells.{
   x_means,
   records_from,
 }
-use Rattle.rt_matrix.specs.declared.Alignment.{Alignment}
 use Rattle.rt_matrix.specs.declared.sums.Sums.{Sums}
 use Rattle.matrix.proofs.Lists.{get_d_same, get_d_zip_with, length_tabulate, get_d_tabulate}
 use Rattle.rt_matrix.proofs.Row.{length_shares}
 use Rattle.rt_matrix.proofs.Columns.{over_points, by_columns, length_over}
-use Rattle.rt_matrix.proofs.SumColumns.{no_sums, sums_at_lem, length_sums}
+use Rattle.rt_matrix.proofs.SumColumns.{no_sums, sums_at_lem}
 use Rattle.rt_matrix.proofs.SpreadColumns.{no_spread, length_spreads, spreads_at}
 use Rattle.rt_matrix.proofs.RecordColumns.{no_record, length_from, from_at}
 

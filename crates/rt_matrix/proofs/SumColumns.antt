@@ -1,5 +1,5 @@
 -- The files' sums, which lie in four columns, as one list.
-use mathlib.Core.Path.{◌≡◌, refl, sym, ap, ap₂, ◌∙◌}
+use mathlib.Core.Path.{◌≡◌, sym, ap, ap₂, ◌∙◌}
 use mathlib.Core.Bool.{Bool, true, false, cond}
 use mathlib.Core.List.{List, [], ◌∷◌, zip, zip_with}
 use mathlib.Core.Option.{Option, none, some}

@@ -3,7 +3,7 @@ use Rattle.std.specs.Prelude.{ℕ, ◌+◌, ◌*◌, ◌^◌, ◌<◌, ◌≤◌
 use mathlib.Core.List.{List, map, zip, zip_with}
 use Rattle.std.proofs.Math.Option.{Option, none, some}
 use Rattle.std.specs.Float.{binary64}
-use Rattle.std.specs.Float.Ieee.{add, mul, sub, div, eq, of_bits}
+use Rattle.std.specs.Float.Ieee.{add, mul, div, eq, of_bits}
 use Rattle.params.specs.Slice.{Held, MutHeld, Change, change, Slice, MutSlice}
 use Rattle.float.specs.Value.{is_normal}
 use Rattle.matrix.specs.Rows.{rows_of}

@@ -55,6 +55,7 @@ returns c =
       rows = rows;
       cells =
           is_flat w n last (eliminate n c.args.eps (rows_of w n c.args.cells.now))
-          (c.backfill.auto.cells ∙ c.reduce.auto.cells ∙ c.echelon.auto.cells ∙ c.fill_zero.auto.cells ∙ c.requires.count) rows;
+          (c.backfill.auto.cells ∙ c.reduce.auto.cells ∙ c.echelon.auto.cells ∙ c.fill_zero.auto.cells
+          ∙ c.requires.count) rows;
       solved = c.left_solved.ensures ∙ ap (left_solved n) rows;
     }

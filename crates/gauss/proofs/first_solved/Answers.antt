@@ -45,8 +45,11 @@ solve_inner-requires c =
     (c.augment.auto.cells ∙ c.loop-eps.invariant.2 ∙ c.requires.cell_count)
 
 pub right_side-requires : goal.right_side-requires
-right_side-requires c =
-    (ap length c.loop-eps.invariant.1 ∙ c.requires.solution_count, c.solve_inner.auto.cells ∙ c.augment.auto.cells ∙ c.loop-eps.invariant.2 ∙ c.requires.cell_count)
+right_side-requires c = (
+  ap length c.loop-eps.invariant.1 ∙ c.requires.solution_count,
+  c.solve_inner.auto.cells ∙ c.augment.auto.cells
+      ∙ c.loop-eps.invariant.2 ∙ c.requires.cell_count,
+)
 
 pub shape_of-cells-then-solve_inner : goal.shape_of-cells-then-solve_inner
 shape_of-cells-then-solve_inner c =
@@ -70,23 +73,28 @@ returns-then-solve_inner c =
     same_rows c.args.n c.args.c c.loop-eps.eps
     (augmented (rows_of c.args.n c.args.n c.args.left.now) (rows_of c.args.c c.args.n c.args.right.now))
     c.augment.new.cells
-    t.last.0 t.result
+    t.new.cells t.result
     c.augment.ensures
     t.ensures in
-    let is : solved c.loop-eps.eps (right_side c.args.n (eliminate c.args.n c.loop-eps.eps (augmented (rows_of c.args.n c.args.n c.args.left.now) (rows_of c.args.c c.args.n c.args.right.now)))) ≡ solution_of c.args.n c.args.c c.args.left.now c.args.right.now =
+    let is : solved c.loop-eps.eps
+    (right_side c.args.n (eliminate c.args.n c.loop-eps.eps
+    (augmented (rows_of c.args.n c.args.n c.args.left.now) (rows_of c.args.c c.args.n c.args.right.now))))
+    ≡ solution_of c.args.n c.args.c c.args.left.now c.args.right.now =
     sym
-    (solves_here c.args.n (augmented (rows_of c.args.n c.args.n c.args.left.now) (rows_of c.args.c c.args.n c.args.right.now)) c.loop-eps.eps c.loop-eps.inv.0 c.loop-eps-test.true (sym rows.1 ∙ c.if-solve_inner.true))
-    ∙ c.loop-eps.inv.3 in
+    (solves_here c.args.n
+    (augmented (rows_of c.args.n c.args.n c.args.left.now) (rows_of c.args.c c.args.n c.args.right.now))
+    c.loop-eps.eps c.loop-eps.invariant.0 c.loop-eps-test.true (sym rows.1 ∙ c.if-solve_inner.true))
+    ∙ c.loop-eps.invariant.3 in
     record {
       answer = ap (answer_of 0) is;
       cells =
           c.zeros.ensures
           ∙ ap (λ (k : ℕ). replicate k zero64)
-          (t.kept.0 ∙ c.augment.auto.cells ∙ c.loop-eps.inv.2);
+          (t.auto.cells ∙ c.augment.auto.cells ∙ c.loop-eps.invariant.2);
       solution =
           c.right_side.ensures
           ∙ ap (right_side c.args.n) rows.0
-          ∙ ap (λ (z : Solution). written z c.args.solution-1.now) is;
+          ∙ ap (λ (z : Solution). written z c.args.solution.now) is;
     }
 
 pub loop-eps-smaller : goal.loop-eps-smaller
@@ -99,12 +107,18 @@ pub loop-eps-preserved : goal.loop-eps-preserved
 unfolding of_bits
 loop-eps-preserved c =
     let t = c.solve_inner in
-    let rows = same_rows c.args.n c.args.c c.loop-eps.eps (augmented (rows_of c.args.n c.args.n c.args.left.now) (rows_of c.args.c c.args.n c.args.right.now)) c.augment.new.cells t.new.0 t.result c.augment.ensures t.ensures in (
+    let rows =
+    same_rows c.args.n c.args.c c.loop-eps.eps
+    (augmented (rows_of c.args.n c.args.n c.args.left.now) (rows_of c.args.c c.args.n c.args.right.now))
+    c.augment.new.cells t.new.cells t.result c.augment.ensures t.ensures in (
       within_next c.loop-eps.eps c.loop-eps.invariant.0
           c.loop-eps-test.true,
       c.loop-eps.invariant.1,
-      t.auto.0 ∙ c.augment.auto.cells ∙ c.loop-eps.invariant.2,
-      sym (solves_later c.args.n (augmented (rows_of c.args.n c.args.n c.args.left.now) (rows_of c.args.c c.args.n c.args.right.now)) c.loop-eps.eps c.loop-eps.invariant.0 c.loop-eps-test.true (sym rows.1 ∙ c.if-solve_inner.false)) ∙ c.loop-eps.invariant.3,
+      t.auto.cells ∙ c.augment.auto.cells ∙ c.loop-eps.invariant.2,
+      sym (solves_later c.args.n
+          (augmented (rows_of c.args.n c.args.n c.args.left.now) (rows_of c.args.c c.args.n c.args.right.now))
+          c.loop-eps.eps c.loop-eps.invariant.0 c.loop-eps-test.true (sym rows.1 ∙ c.if-solve_inner.false))
+          ∙ c.loop-eps.invariant.3,
     )
 
 pub shape_of-cells : goal.shape_of-cells
@@ -118,10 +132,12 @@ unfolding of_bits
 returns c =
     let is : unsolved ≡ solution_of c.args.n c.args.c c.args.left.now c.args.right.now =
     sym
-    (none_solves c.args.n (augmented (rows_of c.args.n c.args.n c.args.left.now) (rows_of c.args.c c.args.n c.args.right.now)) c.loop-eps.eps c.loop-eps-test.false)
+    (none_solves c.args.n
+    (augmented (rows_of c.args.n c.args.n c.args.left.now) (rows_of c.args.c c.args.n c.args.right.now))
+    c.loop-eps.eps c.loop-eps-test.false)
     ∙ c.loop-eps.invariant.3 in
     record {
       answer = ap (answer_of 0) is;
       cells = c.zeros-2.ensures ∙ ap (λ (k : ℕ). replicate k zero64) c.loop-eps.invariant.2;
-      solution = c.loop-eps.invariant.1 ∙ ap (λ (z : Solution). written z c.args.solution-1.now) is;
+      solution = c.loop-eps.invariant.1 ∙ ap (λ (z : Solution). written z c.args.solution.now) is;
     }

@@ -16,7 +16,8 @@ invariant-loop-eps l =
     × (l.solution ≡ l.initial.solution)
     × (length l.cells ≡ length l.initial.cells)
     ×
-    (first_solved l.n (augmented (rows_of l.n l.n l.left) (rows_of l.c l.n l.right)) (ridges_from 16 l.eps) ≡ solution_of l.n l.c l.left l.right)
+    (first_solved l.n (augmented (rows_of l.n l.n l.left) (rows_of l.c l.n l.right)) (ridges_from 16 l.eps)
+    ≡ solution_of l.n l.c l.left l.right)
 
 abbrev pub decreases-loop-eps : goal.decreases-loop-eps
 decreases-loop-eps l = length (ridges_from 16 l.eps)

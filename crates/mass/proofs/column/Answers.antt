@@ -1,5 +1,5 @@
 -- `mass::column` meets its contract: at each arm the place's column is computed, and the place that is left is Y's.
-use Rattle.std.proofs.Common.{◌≡◌, ℕ, ◌+◌, ◌≤◌, refl, sym, ap, ◌∙◌, arith}
+use Rattle.std.proofs.Common.{◌≡◌, ℕ, ◌+◌, refl, sym, ap, ◌∙◌, arith}
 use Rattle.mass.specs.Mass.{column_of, place_from, valid_aa}
 use Rattle.mass.proofs.column.Goals as goal
 

@@ -1,7 +1,7 @@
 -- `matrix::zeros` meets its contract. The loop's invariant: the first k cells are +0.0, the others as they were.
 use mathlib.Core.Path.{◌≡◌}
 use mathlib.Core.List.{◌++◌}
-use Prim.Native.Nat.{◌+◌, ◌-◌, ◌≤◌}
+use Prim.Native.Nat.{◌-◌, ◌≤◌}
 use lib.ListN.{length, drop, replicate}
 use Rattle.float.specs.Number.{zero64}
 use Rattle.matrix.proofs.zeros.Given as goal

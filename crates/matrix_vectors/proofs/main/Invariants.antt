@@ -1,5 +1,5 @@
--- `matrix_vectors::main` is safe and ends: the measures are the cells and the turns that are left.
-use Prim.Native.Nat.{◌-◌}
+-- `matrix_vectors::main` is safe and ends: the measure is the cells that are left.
+use Rattle.std.proofs.Common.{◌-◌}
 use Rattle.matrix_vectors.proofs.main.Given as goal
 
 abbrev pub invariant-loop-i : goal.invariant-loop-i
@@ -8,8 +8,5 @@ invariant-loop-i l = Unit {0}
 abbrev pub decreases-loop-i : goal.decreases-loop-i
 decreases-loop-i l = 1024 - l.i
 
-abbrev pub invariant-loop-turns : goal.invariant-loop-turns
-invariant-loop-turns l = Unit {0}
-
-abbrev pub decreases-loop-turns : goal.decreases-loop-turns
-decreases-loop-turns l = l.turns
+abbrev pub invariant-loop : goal.invariant-loop
+invariant-loop l = Unit {0}

@@ -10,7 +10,8 @@ abbrev pub invariant-loop-p : goal.invariant-loop-p
 invariant-loop-p l =
     (l.p ≤ length l.places)
     × (length l.acc ≡ length l.initial.acc)
-    × (columns_added (rows_of l.four) (drop l.p l.places) (drop l.p l.values) l.acc ≡ columns_added (rows_of l.four) l.places l.values l.initial.acc)
+    × (columns_added (rows_of l.four) (drop l.p l.places) (drop l.p l.values) l.acc
+    ≡ columns_added (rows_of l.four) l.places l.values l.initial.acc)
 
 abbrev pub decreases-loop-p : goal.decreases-loop-p
 decreases-loop-p l = length l.places - l.p

@@ -1,12 +1,12 @@
 -- `packed_rows::add_four_rows` meets its contract: the columns of the first three rows and then the others, up to
--- the run, if there is one, whose cells are added row by row (`four-run`), or to the last (`four-done`).
+-- the run, if there is one, whose cells are added row by row (`four_run`), or to the last (`four_done`).
 use mathlib.Core.Path.{◌≡◌, sym, ap, ap₂, ◌∙◌, subst}
 use mathlib.Core.List.{List}
 use Prim.Native.Nat.{ℕ, ◌+◌, ◌-◌, ◌≤◌, ◌<◌}
 use native.Mathlib.Omega.{arith}
 use lib.ListN.{length, get_or, take, drop, length-drop}
 use lib.Seq.{length-take-le, take_all, get_or-take, get_or-drop}
-use lib.Ieee.{Float, nan}
+use lib.Ieee.{Float}
 use Rattle.packed_rows.specs.Added.{column_added, columns_added, runs_added, rows_of, Gained}
 use Rattle.packed_rows.proofs.Places.{values_long}
 use Rattle.packed_rows.proofs.Begun.{in_four, fits_at, four_done}
@@ -79,7 +79,8 @@ add_columns-requires c =
     let n = a.h - from in
     let k = c.add_third.auto.acc ∙ c.add_first.auto.acc in
     let long = length_part from n a.places.now (omega arith) in record {
-      values_len = length_part from n a.values.now (omega (arith, values_long 0 c.requires.0 a.places.now a.values.now g.listed)) ∙ sym long;
+      values_len = length_part from n a.values.now
+          (omega (arith, values_long 0 c.requires.0 a.places.now a.values.now g.listed)) ∙ sym long;
       by_index = λ p l.
           let u = rw long at l in
           let at = cell_part from n a.places.now p (omega (arith, u)) in

@@ -1,5 +1,5 @@
 -- `packed_rows::add_one_row` meets its contract. The loop's invariant: what is left to add to what is there gives
--- what all the columns give, which `one-gained` says.
+-- what all the columns give, which `one_gained` says.
 use mathlib.Core.Path.{◌≡◌}
 use mathlib.Core.List.{[], ◌∷◌}
 use Prim.Native.Nat.{◌-◌, ◌≤◌}

@@ -2,12 +2,11 @@
 use mathlib.Core.Path.{◌≡◌, refl, sym, ap, ◌∙◌}
 use mathlib.Core.Bool.{Bool, true, false, ◌&&◌}
 use mathlib.Core.List.{List}
-use Prim.Native.Nat.{ℕ, ◌+◌, ◌-◌, ◌<◌}
+use Prim.Native.Nat.{ℕ, ◌+◌, ◌<◌}
 use native.Mathlib.Numerals.{add-one}
 use native.Mathlib.Omega.{arith}
 use lib.ListN.{length, drop, get_or, drop_of_length-le}
 use borrow.Author.Rules.{rules}
-use borrow.Author.Tests.{not-true, not-false}
 use Rattle.mass.specs.Mass.{is_letter}
 use Rattle.status.specs.Checks.{every}
 use Rattle.status.proofs.Laws.{every_step}
@@ -29,12 +28,12 @@ pub returns-then-not-is_letter : goal.returns-then-not-is_letter
 returns-then-not-is_letter c =
     let p = c.args in
     sym
-    (sym c.loop-i.invariant.1 ∙ left p.letters.now c.loop-i.i false (search rules) (sym c.is_letter.ensures ∙ not-true _ c.if-not-is_letter.true-raw))
+    (sym c.loop-i.invariant.1 ∙ left p.letters.now c.loop-i.i false (search rules) (sym c.is_letter.ensures ∙ c.if-not-is_letter.true))
 
 pub loop-i-preserved : goal.loop-i-preserved
 loop-i-preserved c =
     let p = c.args in
-    (search rules, sym (left p.letters.now c.loop-i.i true (search rules) (sym c.is_letter.ensures ∙ not-false _ c.if-not-is_letter.false-raw)) ∙ c.loop-i.invariant.1)
+    (search rules, sym (left p.letters.now c.loop-i.i true (search rules) (sym c.is_letter.ensures ∙ c.if-not-is_letter.false)) ∙ c.loop-i.invariant.1)
 
 pub returns : goal.returns
 unfolding every

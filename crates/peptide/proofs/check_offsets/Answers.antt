@@ -1,7 +1,7 @@
 -- `peptide::check_offsets` meets its contract. The loop's invariant: the offsets from i on, after the one at `start`,
 -- give what the whole gives.
 use mathlib.Core.Path.{sym, ◌∙◌}
-use Prim.Native.Nat.{◌+◌, ◌-◌, ◌≤◌, ◌<◌}
+use Prim.Native.Nat.{◌+◌, ◌≤◌, ◌<◌}
 use native.Mathlib.Omega.{arith}
 use lib.ListN.{get_or}
 use borrow.Author.Rules.{rules}
@@ -20,7 +20,7 @@ returns-then-offsets-peptides c =
     (rw (ne_eqb _ _ c.if-offsets-peptides.true) at (offsets_head p.peptides p.letters p.offsets.now c.if-offsets-lt1.false))
 
 pub overflow_cast-start : goal.overflow_cast-start
-overflow_cast-start c = omega (arith, c.shared_slice_known-1.given 0)
+overflow_cast-start c = omega (arith, c.type_inv.offsets 0)
 
 pub returns-then-start-ne0 : goal.returns-then-start-ne0
 returns-then-start-ne0 c =
@@ -38,7 +38,7 @@ loop-i-init c =
     )
 
 pub overflow_cast-next : goal.overflow_cast-next
-overflow_cast-next c = omega (arith, c.shared_slice_known-in-loop-i-1.given c.loop-i.i)
+overflow_cast-next c = omega (arith, c.type_inv.offsets c.loop-i.i)
 
 pub returns-then-next-start : goal.returns-then-next-start
 returns-then-next-start c =
@@ -61,7 +61,7 @@ loop-i-preserved c =
     let rises : c.loop-i.start ≤ get_or p.offsets.now c.loop-i.i 0 = omega (arith, c.if-next-start.false) in
     let short : get_or p.offsets.now c.loop-i.i 0 ≤ c.loop-i.start + max_letters = omega (arith, c.if-start-next.false) in (
       search rules,
-      omega (arith, c.shared_slice_known-in-loop-i-1.given c.loop-i.i),
+      omega (arith, c.type_inv.offsets c.loop-i.i),
       sym (rw (le-leb _ _ rises, le-leb _ _ short) at (climbs_step c.loop-i.start p.letters c.loop-i.i p.offsets.now (search rules))) ∙ c.loop-i.invariant.2,
     )
 

@@ -16,7 +16,7 @@ same p q r = cc
 pub returns-in-At : goal.returns-in-At
 returns-in-At c =
     ap At (same c.canonical32.ensures c.canonical32-in-At.ensures c.canonical32-in-At-2.ensures)
-    ∙ sym c.found-1.given.1
+    ∙ sym c.in-At.is
 
 pub returns-in-Refused : goal.returns-in-Refused
-returns-in-Refused c = sym c.found-in-Refused-1.given.1
+returns-in-Refused c = sym c.in-Refused.is

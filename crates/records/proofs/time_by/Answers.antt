@@ -9,8 +9,8 @@ use Rattle.records.proofs.time_by.Goals as goal
 pub returns-in-At : goal.returns-in-At
 returns-in-At c =
     timed _ c.args.rt _
-    (ap At c.aligned_time.ensures ∙ sym (ap (λ (f : Found). time_by f c.args.rt) c.found-1.given.1))
+    (ap At c.aligned_time.ensures ∙ sym (ap (λ (f : Found). time_by f c.args.rt) c.in-At.is))
 
 pub returns-in-Refused : goal.returns-in-Refused
 returns-in-Refused c =
-    timed _ c.args.rt _ (sym (ap (λ (f : Found). time_by f c.args.rt) c.found-in-Refused-1.given.1))
+    timed _ c.args.rt _ (sym (ap (λ (f : Found). time_by f c.args.rt) c.in-Refused.is))

@@ -1,7 +1,6 @@
 -- `regression::add_scaled` meets its contract. The loop's invariant: the first k cells are made anew (`made k`), and
 -- the length is as it was.
 use mathlib.Core.Path.{refl, ◌∙◌}
-use Prim.Native.Nat.{◌-◌}
 use native.Mathlib.Omega.{arith}
 use native.Mathlib.Numerals.{add-one}
 use borrow.Author.Rules.{rules}

@@ -10,7 +10,9 @@ use Rattle.regression.proofs.add_scaled.Given as goal
 
 abbrev pub invariant-loop-k : goal.invariant-loop-k
 invariant-loop-k l =
-    (l.k ≤ length l.initial.dst) × (l.dst ≡ made (λ i x. plus_scaled l.factor x (get_or l.src i nan)) l.k l.initial.dst) × (length l.dst ≡ length l.initial.dst)
+    (l.k ≤ length l.initial.dst)
+    × (l.dst ≡ made (λ i x. plus_scaled l.factor x (get_or l.src i nan)) l.k l.initial.dst)
+    × (length l.dst ≡ length l.initial.dst)
 
 abbrev pub decreases-loop-k : goal.decreases-loop-k
 decreases-loop-k l = length l.initial.dst - l.k

@@ -1,16 +1,17 @@
 -- `regression::add_to_rows` meets its contract. The loop's invariant: the first j rows are made anew (`MadeIn`), and
 -- start is row j's first cell.
-use mathlib.Core.Path.{refl, sym, ap, ◌∙◌}
-use Prim.Native.Nat.{ℕ, ◌-◌}
+use mathlib.Core.Path.{◌≡◌, refl, sym, ap, ◌∙◌}
+use mathlib.Core.List.{List}
+use Prim.Native.Nat.{ℕ, ◌+◌, ◌-◌, ◌<◌}
 use native.Mathlib.Omega.{arith}
 use lib.ListN.{length, get_or, drop, length-drop}
 use lib.Seq.{take_all}
-use lib.Ieee.{nan}
+use lib.Ieee.{Float, nan}
 use borrow.Author.Rules.{rules}
 use Rattle.matrix.specs.Rows.{flat}
 use Rattle.matrix.specs.Lists.{zipped}
 use Rattle.elimination.proofs.Made.{made_none}
-use Rattle.elimination.proofs.Rows.{TurnIn, turn_in}
+use Rattle.elimination.proofs.Rows.{MadeIn, TurnIn, turn_in}
 use Rattle.packed_rows.specs.Added.{plus_scaled}
 use Rattle.packed_rows.specs.Falling.{falling_rows, falling_start}
 use Rattle.regression.proofs.FallingLayout.{falling_layout}
@@ -24,44 +25,54 @@ unfolding falling_start
 loop-j-init c = (search rules, refl, made_none _ _, refl)
 
 -- a turn of the loop
-here : (c : goal.In-loop-j invariant_loop decreases_loop)
-    → let a = c.args in let l = c.loop-j in let w = length a.ext.now in
-    TurnIn (w - 1) (falling_rows w (w - 1)) (falling_start w) (scaled a.ext.now)
-    a.acc-1.now l.acc-1 l.start (w - l.j) l.j
-here c =
-    let a = c.args in
-    let l = c.loop-j in
-    let w = length a.ext.now in
+here : (ext acc₀ acc : List Float) (start j : ℕ)
+    → (let w = length ext in
+    MadeIn (w - 1) (falling_rows w (w - 1)) (falling_start w) (scaled ext) acc₀ acc start j)
+    → j + 1 < length ext
+    → length acc₀ ≡ falling_start (length ext) (length ext - 1)
+    → (let w = length ext in
+    TurnIn (w - 1) (falling_rows w (w - 1)) (falling_start w) (scaled ext) acc₀ acc start (w - j) j)
+here ext acc₀ acc start j inv h whole =
+    let w = length ext in
     turn_in (w - 1) (falling_rows w (w - 1)) (falling_start w) (λ i. w - i) (falling_layout w (w - 1))
-    (scaled a.ext.now) a.acc-1.now l.acc-1 l.start (w - l.j) l.j l.invariant (omega arith) c.requires refl
+    (scaled ext) acc₀ acc start (w - j) j inv (omega arith) whole refl
 
 pub overflow_add-end : goal.overflow_add-end
-overflow_add-end c = omega (arith, (here c).ranges)
+overflow_add-end c =
+    let l = c.loop-j in
+    let t = here c.args.ext.now c.args.acc.now l.acc l.start l.j l.invariant (omega arith) c.requires in
+    omega (arith, t.fits)
 
 pub offset_bounds-acc-start : goal.offset_bounds-acc-start
-offset_bounds-acc-start c = omega (arith, (here c).ranges)
+offset_bounds-acc-start c =
+    let l = c.loop-j in
+    let t = here c.args.ext.now c.args.acc.now l.acc l.start l.j l.invariant (omega arith) c.requires in
+    omega (arith, t.fits)
 
 pub slice_bounds-add_scaled-end : goal.slice_bounds-add_scaled-end
-slice_bounds-add_scaled-end c = omega (arith, (here c).ranges)
+slice_bounds-add_scaled-end c =
+    let l = c.loop-j in
+    let t = here c.args.ext.now c.args.acc.now l.acc l.start l.j l.invariant (omega arith) c.requires in
+    omega (arith, t.fits)
 
 pub loop-j-preserved : goal.loop-j-preserved
 loop-j-preserved c =
-    let t = c.before.before.before.before.before.before in
-    let ext = t.args.ext.now in
-    let j = t.loop-j.j in
+    let l = c.loop-j in
+    let t = here c.args.ext.now c.args.acc.now l.acc l.start l.j l.invariant (omega arith) c.requires in
+    let ext = c.args.ext.now in
     let done = c.add_scaled in
-    (here t).next done.new.0 done.auto.0
+    t.next done.new.dst done.auto.dst
     (done.ensures
-    ∙ ap (zipped (plus_scaled (get_or ext j nan)) _)
-    (take_all (length ext - j) (drop j ext) (simp length-drop (omega arith))))
+    ∙ ap (zipped (plus_scaled (get_or ext l.j nan)) _)
+    (take_all (length ext - l.j) (drop l.j ext) (simp length-drop (omega arith))))
 
 pub returns : goal.returns
 returns c =
     let l = c.loop-j in
     let a = c.args in
     let w : ℕ = length a.ext.now in
-    sym (flat_falling w (w - 1) l.acc-1 (l.invariant.3 ∙ c.requires))
+    sym (flat_falling w (w - 1) l.acc (l.invariant.3 ∙ c.requires))
     ∙ ap flat
     (l.invariant.2
-    ∙ made_add plus_scaled l.j (falling_rows w (w - 1) a.acc-1.now) a.ext.now
+    ∙ made_add plus_scaled l.j (falling_rows w (w - 1) a.acc.now) a.ext.now
     (simp length_falling (omega arith)) (simp length_falling (omega arith)))

@@ -12,7 +12,7 @@ use Rattle.matrix.specs.Rows.{rows_of, flat}
 use Rattle.matrix.proofs.Laws.{length_flat, rows_of_flat}
 use Rattle.elimination.specs.Elimination.{Tried, eliminate}
 use Rattle.packed_rows.specs.Falling.{falling_start}
-use Rattle.regression.specs.Workspace.{system_length, stored, equations}
+use Rattle.regression.specs.Workspace.{workspace_cells, system_length, stored, equations}
 use Rattle.regression.specs.Solve.{Attempted}
 use Rattle.regression.proofs.Triangle.{wide_unfolded, length_unfolded}
 use Rattle.regression.proofs.Workspace.{two_parts}
@@ -46,49 +46,43 @@ attempted d eps ws₀ ws₁ last split r h written tried len =
       rest = ap (λ (k : ℕ). drop k (last ++ drop split ws₁)) (sym h) ∙ drop_at last _ split ll ∙ back;
     }
 
--- where the function begins, and where the stored rows do
-module _ (o : goal.After-system_length-split) where
-  abbrev s : goal.Start
-  s = o.before.before
-
-  abbrev split : ℕ
-  split = o.system_length-split.result
-
-  split_is : split ≡ system_length s.args.d
-  split_is = o.system_length-split.ensures
-
-  two : length s.args.workspace-1.now ≡ split + falling_start (s.args.d + 1) s.args.d
-  two = omega (arith, split_is, s.requires.count, two_parts s.args.d)
-
--- as an unfolded workspace sees it
-module _ (r : goal.After-unfold) where
-  abbrev begun : goal.After-system_length-split
-  begun = r.before.before
-
-  fits : split begun ≤ length r.unfold.last.0
-  fits = omega (arith, r.unfold.kept.0, two begun)
+-- the cells of a workspace
+two : (d split : ℕ) (ws : List Float) → split ≡ system_length d → length ws ≡ workspace_cells d
+    → length ws ≡ split + falling_start (d + 1) d
+two d split ws is count = omega (arith, two_parts d)
 
 pub unfold-requires : goal.unfold-requires
-unfold-requires c = record {
-  d_le_max_order = (s c.before).pre.order;
-  split_value = (split_is c.before, two c.before);
-}
+unfold-requires c =
+    let is = c.system_length-split.ensures in
+    record {
+      d_le_max_order = c.requires.order;
+      split_value = (is, two c.args.d c.system_length-split.result c.args.workspace.now is c.requires.count);
+    }
 
 pub slice_bounds-solve_inner-end : goal.slice_bounds-solve_inner-end
-slice_bounds-solve_inner-end c = fits c.before.before
+slice_bounds-solve_inner-end c =
+    let split = c.system_length-split.result in
+    let t = two c.args.d split c.args.workspace.now c.system_length-split.ensures c.requires.count in
+    let fits : split ≤ length c.unfold.new.cells = omega (arith, c.unfold.auto.cells, t) in
+    fits
 
 pub slice_bounds-solve_inner-end-2 : goal.slice_bounds-solve_inner-end-2
-slice_bounds-solve_inner-end-2 c = simp length-take (omega (arith, fits c.before.before.before))
+slice_bounds-solve_inner-end-2 c =
+    let split = c.system_length-split.result in
+    let t = two c.args.d split c.args.workspace.now c.system_length-split.ensures c.requires.count in
+    let fits : split ≤ length c.unfold.new.cells = omega (arith, c.unfold.auto.cells, t) in
+    simp length-take (omega arith)
 
 pub solve_inner-requires : goal.solve_inner-requires
 solve_inner-requires c =
-    let r = c.before.before.before in
-    let o = begun r in
+    let split = c.system_length-split.result in
+    let t = two c.args.d split c.args.workspace.now c.system_length-split.ensures c.requires.count in
+    let fits : split ≤ length c.unfold.new.cells = omega (arith, c.unfold.auto.cells, t) in
     record {
-      order = (s o).pre.order;
+      order = c.requires.order;
       wide = omega arith;
       left = omega arith;
-      count = simp length-take (omega (arith, fits r, o.system_length-split.ensures));
+      count = simp length-take (omega (arith, c.system_length-split.ensures));
     }
 
 pub shape_of-workspace : goal.shape_of-workspace
@@ -99,8 +93,8 @@ shape_of-workspace c =
 pub returns : goal.returns
 returns c =
     let tried = c.solve_inner in
-    let r = c.before.before.before.before.before.before in
-    let o = begun r in
-    let a = (s o).args in
-    attempted a.d a.eps a.workspace-1.now r.unfold.new.cells tried.new.0 (split o) tried.result
-    (split_is o) (rw (split_is o) at r.unfold.ensures) tried.ensures tried.auto.0
+    let a = c.args in
+    let split = c.system_length-split.result in
+    let is = c.system_length-split.ensures in
+    attempted a.d a.eps a.workspace.now c.unfold.new.cells tried.new.cells split tried.result
+    is (rw is at c.unfold.ensures) tried.ensures tried.auto.cells

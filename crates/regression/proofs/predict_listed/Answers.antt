@@ -30,56 +30,27 @@ left_behind row places p u h l k =
     ∙ ap (λ (i : ℕ). nonzeros i (drop u row)) {x = 0 + u} {y = h + (u - h)} (omega arith)
     ∙ ap (nonzeros (h + (u - h))) (ap (λ (i : ℕ). drop i row) e ∙ sym (drop-drop (u - h) h row))
 
--- where the function begins
-abbrev begun : goal.At-loop-p invariant_loop decreases_loop → goal.Start invariant_loop decreases_loop
-begun c = c.before.before.before.before.before.before
-
--- a turn, whatever the row that is listed
-module _ (c : goal.In-loop-p invariant_loop decreases_loop) where
-  abbrev s : goal.Start invariant_loop decreases_loop
-  s = begun c.before
-
-  abbrev h : ℕ
-  h = length s.args.head.now
-
-  abbrev places : List ℕ
-  places = s.args.places.now
-
-  abbrev values : List Float
-  values = s.args.values.now
-
-  abbrev beta : List Float
-  beta = s.args.beta.now
-
-  abbrev p : ℕ
-  p = c.loop-p.p
-
-  module _ (row : List Float) (g : SplitRow (length beta) s.args.head.now places values row) where
-    abbrev u : ℕ
-    u = (c.loop-p.invariant.2 row g).0
-
+-- a turn, for a row that is listed
+module _ (head : List Float) (places : List ℕ) (values beta row : List Float)
+    (g : SplitRow (length beta) head places values row) where
+  module _ (p u : ℕ) (left : Left 0 row places p u) (h : p < length places) where
     turn : Next 0 u row (get_or places p 0) (drop (suc p) places)
-    turn =
-        let m = c.loop-p.invariant.2 row g in
-        next_left 0 row places p u m.1 (omega arith)
+    turn = next_left 0 row places p u left h
 
-    value : get_or values p nan ≡ get_or row (get_or places p 0) nan
-    value =
-        let m = c.loop-p.invariant.2 row g in
+    value : length head ≤ u → get_or values p nan ≡ get_or row (get_or places p 0) nan
+    value past =
+        let n : ℕ = length head in
         let q : ℕ = get_or places p 0 in
-        value_at_lem h (drop h row) places values g.rest p (u - h) (left_behind row places p u h m.1 m.2)
-        (omega arith)
-        ∙ get_or-drop h row (q - h) nan
-        ∙ ap (λ (k : ℕ). get_or row k nan) {x = h + (q - h)} {y = q} (omega (arith, turn.from, m.2))
+        value_at_lem n (drop n row) places values g.rest p (u - n) (left_behind row places p u n left past) h
+        ∙ get_or-drop n row (q - n) nan
+        ∙ ap (λ (k : ℕ). get_or row k nan) {x = n + (q - n)} {y = q} (omega (arith, turn.from))
 
-  -- a place is a coefficient's, and there are as many values as places
-  within : (get_or places p 0 < length beta) × (length values ≡ length places)
-  within =
-      let g = s.requires.split_row in
-      let n = turn g.0 g.1 in (
-        omega (arith, n.within, g.1.wide),
-        values_long h (drop h g.0) places values g.1.rest,
-      )
+    -- a place is a coefficient's, and there are as many values as places
+    within : (get_or places p 0 < length beta) × (length values ≡ length places)
+    within = (
+      omega (arith, turn.within, g.wide),
+      values_long (length head) (drop (length head) row) places values g.rest,
+    )
 
 pub loop-p-init : goal.loop-p-init
 unfolding of_bits dot
@@ -103,57 +74,97 @@ loop-p-init c =
     )
 
 pub offset_bounds-values-p : goal.offset_bounds-values-p
-offset_bounds-values-p c = let n = within c in omega (arith, n.0, n.1)
+offset_bounds-values-p c =
+    let a = c.args in
+    let l = c.loop-p in
+    let g = c.requires.split_row in
+    let m = l.invariant.2 g.0 g.1 in
+    let n = within a.head.now a.places.now a.values.now a.beta.now g.0 g.1 l.p m.0 m.1 (omega arith) in
+    omega (arith, n.0, n.1)
 
 pub bounds-values-p : goal.bounds-values-p
-bounds-values-p c = let n = within c.before in omega (arith, n.0, n.1)
+bounds-values-p c =
+    let a = c.args in
+    let l = c.loop-p in
+    let g = c.requires.split_row in
+    let m = l.invariant.2 g.0 g.1 in
+    let n = within a.head.now a.places.now a.values.now a.beta.now g.0 g.1 l.p m.0 m.1 (omega arith) in
+    omega (arith, n.0, n.1)
 
 pub offset_bounds-places-p : goal.offset_bounds-places-p
-offset_bounds-places-p c = let n = within c.before in omega (arith, n.0, n.1)
+offset_bounds-places-p c =
+    let a = c.args in
+    let l = c.loop-p in
+    let g = c.requires.split_row in
+    let m = l.invariant.2 g.0 g.1 in
+    let n = within a.head.now a.places.now a.values.now a.beta.now g.0 g.1 l.p m.0 m.1 (omega arith) in
+    omega (arith, n.0, n.1)
 
 pub bounds-places-p : goal.bounds-places-p
-bounds-places-p c = let n = within c.before.before in omega (arith, n.0, n.1)
+bounds-places-p c =
+    let a = c.args in
+    let l = c.loop-p in
+    let g = c.requires.split_row in
+    let m = l.invariant.2 g.0 g.1 in
+    let n = within a.head.now a.places.now a.values.now a.beta.now g.0 g.1 l.p m.0 m.1 (omega arith) in
+    omega (arith, n.0, n.1)
 
 pub offset_bounds-beta-places : goal.offset_bounds-beta-places
-offset_bounds-beta-places c = let n = within c.before.before in omega (arith, n.0, n.1)
+offset_bounds-beta-places c =
+    let a = c.args in
+    let l = c.loop-p in
+    let g = c.requires.split_row in
+    let m = l.invariant.2 g.0 g.1 in
+    let n = within a.head.now a.places.now a.values.now a.beta.now g.0 g.1 l.p m.0 m.1 (omega arith) in
+    omega (arith, n.0, n.1)
 
 pub bounds-beta-places : goal.bounds-beta-places
-bounds-beta-places c = let n = within c.before.before.before in omega (arith, n.0, n.1)
+bounds-beta-places c =
+    let a = c.args in
+    let l = c.loop-p in
+    let g = c.requires.split_row in
+    let m = l.invariant.2 g.0 g.1 in
+    let n = within a.head.now a.places.now a.values.now a.beta.now g.0 g.1 l.p m.0 m.1 (omega arith) in
+    omega (arith, n.0, n.1)
 
 pub loop-p-preserved : goal.loop-p-preserved
 loop-p-preserved c =
-    let t = c.before.before.before in
-    let l = t.loop-p in
-    let q : ℕ = get_or (places t) (p t) 0 in
-    let x : Float = mul binary64 (get_or (values t) (p t) nan) (get_or (beta t) q nan) in (
+    let a = c.args in
+    let l = c.loop-p in
+    let head = a.head.now in
+    let places = a.places.now in
+    let values = a.values.now in
+    let beta = a.beta.now in
+    let finite = c.requires.beta_value in
+    let q : ℕ = get_or places l.p 0 in
+    let x : Float = mul binary64 (get_or values l.p nan) (get_or beta q nan) in (
       omega arith,
-      sum_next l.sum x l.invariant.1 (mul-fits binary64 (get_or (values t) (p t) nan) (get_or (beta t) q nan)),
+      sum_next l.sum x l.invariant.1 (mul-fits binary64 (get_or values l.p nan) (get_or beta q nan)),
       λ row g.
           let m = l.invariant.2 row g in
           let u : ℕ = m.0 in
-          let n = turn t row g in
+          let n = turn head places values beta row g l.p u m.1 (omega arith) in
           let same : q - 0 ≡ q = omega arith in
           let e : u + (q - u) ≡ q = omega (arith, n.from) in
-          let wide : length row ≡ length (beta t) = g.wide in (
+          let wide : length row ≡ length beta = g.wide in (
             suc (q - 0),
-            left_next 0 row (places t) (p t) u m.1 (omega arith),
+            left_next 0 row places l.p u m.1 (omega arith),
             omega (arith, n.from, m.2),
             omega (arith, n.within),
             ap
                 (λ (v : Float).
-                summed row (beta t) (s t).requires.beta_value wide (add binary64 l.sum (mul binary64 v (get_or (beta t) q nan)))
-                (suc (q - 0)))
-                (value t row g)
+                summed row beta finite wide (add binary64 l.sum (mul binary64 v (get_or beta q nan))) (suc (q - 0)))
+                (value head places values beta row g l.p u m.1 (omega arith) m.2)
                 ∙ ap
                 (λ (k : ℕ).
-                summed row (beta t) (s t).requires.beta_value wide
-                (add binary64 l.sum (mul binary64 (get_or row q nan) (get_or (beta t) q nan))) (suc k))
+                summed row beta finite wide
+                (add binary64 l.sum (mul binary64 (get_or row q nan) (get_or beta q nan))) (suc k))
                 same
                 ∙ sym
-                (summed_zeros row (beta t) (s t).requires.beta_value wide (q - u) u l.sum l.invariant.1
+                (summed_zeros row beta finite wide (q - u) u l.sum l.invariant.1
                 (omega (arith, n.from, n.within)) (λ i a b. n.zeros i a (omega (arith, n.from)))
-                ∙ ap (summed row (beta t) (s t).requires.beta_value wide l.sum) e
-                ∙ summed_next row (beta t) (s t).requires.beta_value wide l.sum q (omega (arith, n.within)))
+                ∙ ap (summed row beta finite wide l.sum) e
+                ∙ summed_next row beta finite wide l.sum q (omega (arith, n.within)))
                 ∙ m.4,
           ),
     )
@@ -162,21 +173,20 @@ pub returns : goal.returns
 unfolding zip_with
 returns c =
     let l = c.loop-p in
-    let s = begun c.before.before in
-    let ps = s.args.places.now in
-    let bs = s.args.beta.now in
+    let ps = c.args.places.now in
+    let bs = c.args.beta.now in
     λ row g.
     let m = l.invariant.2 row g in
     let u : ℕ = m.0 in
     let n : ℕ = length row in
     let wide : length row ≡ length bs = g.wide in
     let none = left_none 0 row ps l.p u m.1 (omega arith) in
-    let end : summed row bs s.requires.beta_value wide l.sum n ≡ l.sum =
+    let end : summed row bs c.requires.beta_value wide l.sum n ≡ l.sum =
     rw (drop_of_length-le row {i = n} (omega arith)) in
     c.canonical64.ensures
     ∙ sym
-    (summed_zeros row bs s.requires.beta_value wide (n - u) u l.sum l.invariant.1 (omega (arith, m.3))
+    (summed_zeros row bs c.requires.beta_value wide (n - u) u l.sum l.invariant.1 (omega (arith, m.3))
     (λ i a b. none_left 0 u row none i a (omega (arith, m.3)))
-    ∙ ap (summed row bs s.requires.beta_value wide l.sum) {x = u + (n - u)} {y = n} (omega (arith, m.3))
+    ∙ ap (summed row bs c.requires.beta_value wide l.sum) {x = u + (n - u)} {y = n} (omega (arith, m.3))
     ∙ end)
     ∙ m.4

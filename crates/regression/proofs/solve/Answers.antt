@@ -10,6 +10,6 @@ returns c =
     let first = c.first_solved-ridge in
     record {
       answer = first.ensures.answer;
-      workspace = c.zeros.ensures ∙ ap (λ (n : ℕ). replicate n zero64) first.auto.0;
+      workspace = c.zeros.ensures ∙ ap (λ (n : ℕ). replicate n zero64) first.auto.workspace;
       coefficients = first.ensures.coefficients;
     }

@@ -2,7 +2,7 @@
 -- left is the whole sum.
 use mathlib.Core.Path.{refl}
 use mathlib.Core.List.{List, zip_with}
-use Prim.Native.Nat.{◌-◌, ◌<◌}
+use Prim.Native.Nat.{◌<◌}
 use native.Mathlib.Omega.{arith}
 use native.Mathlib.Numerals.{add-one}
 use lib.ListN.{length, drop_of_length-le}

@@ -11,7 +11,8 @@ use Rattle.regression.proofs.sum_products.Given as goal
 
 abbrev pub invariant-loop-k : goal.invariant-loop-k
 invariant-loop-k l =
-    (l.k ≤ length l.row) × (sum_from l.sum (zip_with (mul binary64) (drop l.k l.row) (drop l.k l.beta)) ≡ dot l.row l.beta)
+    (l.k ≤ length l.row)
+    × (sum_from l.sum (zip_with (mul binary64) (drop l.k l.row) (drop l.k l.beta)) ≡ dot l.row l.beta)
 
 abbrev pub decreases-loop-k : goal.decreases-loop-k
 decreases-loop-k l = length l.row - l.k

@@ -1,8 +1,7 @@
 -- `regression::unfold` meets its contract. The loop's invariant: the first j full rows are written and what is stored
 -- is as it was (`RowsWritten`), and `to` is row j's first cell.
---
 use mathlib.Core.Path.{◌≡◌, refl, sym, ◌∙◌}
-use Prim.Native.Nat.{◌+◌, ◌-◌, ◌≤◌}
+use Prim.Native.Nat.{◌+◌, ◌≤◌}
 use native.Mathlib.Nat.{zero-mul}
 use native.Mathlib.Omega.{arith}
 use lib.ListN.{length}
@@ -38,11 +37,11 @@ loop-j-preserved c =
     let l = c.loop-j in
     let done = c.unfold_row in
     let h : l.j + 1 ≤ a.d = omega arith in
-    let n : length l.cells-1 ≡ a.split + falling_start (a.d + 1) a.d = omega arith in (
+    let n : length l.cells ≡ a.split + falling_start (a.d + 1) a.d = omega arith in (
       h,
       next_start l.to l.j (a.d + 1) l.invariant.1,
-      done.auto.0 ∙ l.invariant.2,
-      row_written a.d l.j a.split l.to a.cells-1.now l.cells-1 done.new.0 (omega arith) n
+      done.auto.cells ∙ l.invariant.2,
+      row_written a.d l.j a.split l.to a.cells.now l.cells done.new.cells (omega arith) n
           l.invariant.1 (omega arith) done.ensures l.invariant.3,
     )
 
@@ -50,4 +49,4 @@ pub returns : goal.returns
 returns c =
     let l = c.loop-j in
     let a = c.args in
-    all_written a.d l.j a.split a.cells-1.now l.cells-1 (omega arith) (omega arith) l.invariant.3
+    all_written a.d l.j a.split a.cells.now l.cells (omega arith) (omega arith) l.invariant.3

@@ -1,7 +1,7 @@
 -- `regression::unfold_column` meets its contract. The loop's invariant: the first k cells of the full row are written
 -- (`paste`), and the stored row k starts at `start`.
 use mathlib.Core.Path.{◌≡◌, refl, ap, ◌∙◌}
-use Prim.Native.Nat.{ℕ, ◌+◌, ◌-◌, ◌<◌}
+use Prim.Native.Nat.{ℕ, ◌+◌, ◌-◌, ◌≤◌, ◌<◌}
 use native.Mathlib.Numerals.{add-one}
 use native.Mathlib.Omega.{arith}
 use lib.ListN.{length, length-set}
@@ -19,45 +19,64 @@ loop-k-init c =
     (search rules, omega arith, paste-zero a.cells.now a.to (full_row a.d a.split a.cells.now a.j), refl)
 
 -- the cell that a turn reads is a stored one, and the one that it writes is not
-module _ (t : goal.In-loop-k invariant_loop decreases_loop) where
-  abbrev here : ℕ
-  here = t.loop-k.start + (t.args.j - t.loop-k.k)
+at : (d j k split start : ℕ) → k ≤ j → start ≡ split + falling_start (d + 1) k
+    → start + (j - k) ≡ split + place_of d j k
+at d j k split start h e = omega (arith, e, place_before d j k h)
 
-  at : let a = t.args in here ≡ a.split + place_of a.d a.j t.loop-k.k
-  at =
-      let a = t.args in
-      let l = t.loop-k in
-      omega (arith, l.inv.1, place_before a.d a.j l.k l.inv.0)
-
-  below : here < length t.args.cells.now
-  below =
-      let a = t.args in
-      let p = place_below a.d a.j t.loop-k.k (omega arith) (omega arith) in
-      omega (arith, at, p)
+below : (d j k split start n : ℕ) → j < d → k ≤ j → start ≡ split + falling_start (d + 1) k
+    → n ≡ split + falling_start (d + 1) d → start + (j - k) < n
+below d j k split start n l h e whole =
+    let p = place_below d j k l (omega arith) in
+    let s = at d j k split start h e in
+    omega arith
 
 pub overflow_add-cells : goal.overflow_add-cells
-overflow_add-cells c = omega (arith, below c)
+overflow_add-cells c =
+    let a = c.args in
+    let l = c.loop-k in
+    let p =
+    below a.d a.j l.k a.split l.start (length a.cells.now) c.requires.j_lt_d.0 l.invariant.0 l.invariant.1
+    c.requires.d_bound.1 in
+    omega arith
 
 pub offset_bounds-cells-start : goal.offset_bounds-cells-start
-offset_bounds-cells-start c = omega (arith, below c)
+offset_bounds-cells-start c =
+    let a = c.args in
+    let l = c.loop-k in
+    let p =
+    below a.d a.j l.k a.split l.start (length a.cells.now) c.requires.j_lt_d.0 l.invariant.0 l.invariant.1
+    c.requires.d_bound.1 in
+    omega arith
 
 pub bounds-cells-start : goal.bounds-cells-start
-bounds-cells-start c = omega (arith, below c.before)
+bounds-cells-start c =
+    let a = c.args in
+    let l = c.loop-k in
+    let p =
+    below a.d a.j l.k a.split l.start (length a.cells.now) c.requires.j_lt_d.0 l.invariant.0 l.invariant.1
+    c.requires.d_bound.1 in
+    omega arith
 
 pub overflow_add-start-in-loop-k : goal.overflow_add-start-in-loop-k
-overflow_add-start-in-loop-k c = omega (arith, below c.before)
+overflow_add-start-in-loop-k c =
+    let a = c.args in
+    let l = c.loop-k in
+    let p =
+    below a.d a.j l.k a.split l.start (length a.cells.now) c.requires.j_lt_d.0 l.invariant.0 l.invariant.1
+    c.requires.d_bound.1 in
+    omega arith
 
 pub loop-k-preserved : goal.loop-k-preserved
 loop-k-preserved c =
-    let t = c.before in
-    let l = t.loop-k in
-    let a = t.args in
+    let l = c.loop-k in
+    let a = c.args in
     let next : falling_start (a.d + 1) (l.k + 1) ≡ falling_start (a.d + 1) l.k + (a.d + 1 - l.k) =
     rw (add-one l.k) (start_next (a.d + 1) l.k) in (
       omega arith,
       omega (arith, l.invariant.1, next),
-      one_more a.d a.j l.k a.split a.to (here t) a.cells.now l.cells
-          (omega arith) (omega arith) (omega arith) (omega arith) (at t) l.invariant.2,
+      one_more a.d a.j l.k a.split a.to (l.start + (a.j - l.k)) a.cells.now l.cells c.requires.j_lt_d.0 (omega arith)
+          c.requires.d_bound.0 c.requires.d_bound.1 (at a.d a.j l.k a.split l.start l.invariant.0 l.invariant.1)
+          l.invariant.2,
       simp length-set l.invariant.3,
     )
 

@@ -15,7 +15,8 @@ invariant-loop-k l =
     × (l.k ≤ l.d + 1)
     × (length l.cells ≡ length l.initial.cells)
     ×
-    ((old : List Float) → length old ≡ length l.initial.cells → l.initial.cells ≡ paste old l.to (full_row l.d l.split old l.j) l.j
+    ((old : List Float) → length old ≡ length l.initial.cells
+    → l.initial.cells ≡ paste old l.to (full_row l.d l.split old l.j) l.j
     → l.cells ≡ paste old l.to (full_row l.d l.split old l.j) l.k)
 
 abbrev pub decreases-loop-k : goal.decreases-loop-k

@@ -1,9 +1,8 @@
 -- `retention_alignment::align_accepted` meets its contract: the work's parts are written back.
-use mathlib.Core.Path.{◌≡◌, sym, ◌∙◌}
-use mathlib.Core.List.{List, ◌++◌}
-use Prim.Native.Nat.{ℕ, ◌≤◌}
+use mathlib.Core.Path.{sym, ◌∙◌}
+use Prim.Native.Nat.{◌≤◌}
 use native.Mathlib.Omega.{arith}
-use lib.ListN.{length, take, drop, length-append, length-drop}
+use lib.ListN.{length}
 use lib.Seq.{length-take-le}
 use Rattle.rt_matrix.specs.Columns.{file_columns_at}
 use Rattle.rt_matrix.proofs.RecordColumns.{first_each}
@@ -44,55 +43,65 @@ pub slice_bounds-align-end : goal.slice_bounds-align-end
 slice_bounds-align-end c = cells_fit (goal.at.slice_bounds-align-end c).After-cell_count-cells
 
 pub slice_bounds-align-end-2 : goal.slice_bounds-align-end-2
-slice_bounds-align-end-2 c = sym (length-take-le _ _ (cells_fit (goal.at.slice_bounds-align-end-2 c).After-cell_count-cells))
+slice_bounds-align-end-2 c = sym
+    (length-take-le _ _ (cells_fit (goal.at.slice_bounds-align-end-2 c).After-cell_count-cells))
 
 pub slice_bounds-align-end-3 : goal.slice_bounds-align-end-3
 slice_bounds-align-end-3 c = (checks (goal.at.slice_bounds-align-end-3 c).After-cell_count-cells).records.max_rt
 
 pub slice_bounds-align-end-4 : goal.slice_bounds-align-end-4
-slice_bounds-align-end-4 c = sym (length-take-le _ _ (checks (goal.at.slice_bounds-align-end-4 c).After-cell_count-cells).records.max_rt)
+slice_bounds-align-end-4 c = sym
+    (length-take-le _ _ (checks (goal.at.slice_bounds-align-end-4 c).After-cell_count-cells).records.max_rt)
 
 pub slice_bounds-align-end-5 : goal.slice_bounds-align-end-5
 slice_bounds-align-end-5 c = (checks (goal.at.slice_bounds-align-end-5 c).After-cell_count-cells).records.slope
 
 pub slice_bounds-align-end-6 : goal.slice_bounds-align-end-6
-slice_bounds-align-end-6 c = sym (length-take-le _ _ (checks (goal.at.slice_bounds-align-end-6 c).After-cell_count-cells).records.slope)
+slice_bounds-align-end-6 c = sym
+    (length-take-le _ _ (checks (goal.at.slice_bounds-align-end-6 c).After-cell_count-cells).records.slope)
 
 pub slice_bounds-align-end-7 : goal.slice_bounds-align-end-7
 slice_bounds-align-end-7 c = (checks (goal.at.slice_bounds-align-end-7 c).After-cell_count-cells).records.intercept
 
 pub slice_bounds-align-end-8 : goal.slice_bounds-align-end-8
-slice_bounds-align-end-8 c = sym (length-take-le _ _ (checks (goal.at.slice_bounds-align-end-8 c).After-cell_count-cells).records.intercept)
+slice_bounds-align-end-8 c = sym
+    (length-take-le _ _ (checks (goal.at.slice_bounds-align-end-8 c).After-cell_count-cells).records.intercept)
 
 pub slice_bounds-align-end-9 : goal.slice_bounds-align-end-9
 slice_bounds-align-end-9 c = (checks (goal.at.slice_bounds-align-end-9 c).After-cell_count-cells).records.used
 
 pub slice_bounds-align-end-10 : goal.slice_bounds-align-end-10
-slice_bounds-align-end-10 c = sym (length-take-le _ _ (checks (goal.at.slice_bounds-align-end-10 c).After-cell_count-cells).records.used)
+slice_bounds-align-end-10 c = sym
+    (length-take-le _ _ (checks (goal.at.slice_bounds-align-end-10 c).After-cell_count-cells).records.used)
 
 pub slice_bounds-align-end-11 : goal.slice_bounds-align-end-11
 slice_bounds-align-end-11 c = (checks (goal.at.slice_bounds-align-end-11 c).After-cell_count-cells).records.max_rt_exact
 
 pub slice_bounds-align-end-12 : goal.slice_bounds-align-end-12
-slice_bounds-align-end-12 c = sym (length-take-le _ _ (checks (goal.at.slice_bounds-align-end-12 c).After-cell_count-cells).records.max_rt_exact)
+slice_bounds-align-end-12 c = sym
+    (length-take-le _ _ (checks (goal.at.slice_bounds-align-end-12 c).After-cell_count-cells).records.max_rt_exact)
 
 pub slice_bounds-align-end-13 : goal.slice_bounds-align-end-13
 slice_bounds-align-end-13 c = (checks (goal.at.slice_bounds-align-end-13 c).After-cell_count-cells).records.slope_exact
 
 pub slice_bounds-align-end-14 : goal.slice_bounds-align-end-14
-slice_bounds-align-end-14 c = sym (length-take-le _ _ (checks (goal.at.slice_bounds-align-end-14 c).After-cell_count-cells).records.slope_exact)
+slice_bounds-align-end-14 c = sym
+    (length-take-le _ _ (checks (goal.at.slice_bounds-align-end-14 c).After-cell_count-cells).records.slope_exact)
 
 pub slice_bounds-align-end-15 : goal.slice_bounds-align-end-15
-slice_bounds-align-end-15 c = (checks (goal.at.slice_bounds-align-end-15 c).After-cell_count-cells).records.intercept_exact
+slice_bounds-align-end-15 c = (checks
+    (goal.at.slice_bounds-align-end-15 c).After-cell_count-cells).records.intercept_exact
 
 pub slice_bounds-align-end-16 : goal.slice_bounds-align-end-16
-slice_bounds-align-end-16 c = sym (length-take-le _ _ (checks (goal.at.slice_bounds-align-end-16 c).After-cell_count-cells).records.intercept_exact)
+slice_bounds-align-end-16 c = sym
+    (length-take-le _ _ (checks (goal.at.slice_bounds-align-end-16 c).After-cell_count-cells).records.intercept_exact)
 
 pub slice_bounds-align-end-17 : goal.slice_bounds-align-end-17
 slice_bounds-align-end-17 c = (checks (goal.at.slice_bounds-align-end-17 c).After-cell_count-cells).aligned
 
 pub slice_bounds-align-end-18 : goal.slice_bounds-align-end-18
-slice_bounds-align-end-18 c = sym (length-take-le _ _ (checks (goal.at.slice_bounds-align-end-18 c).After-cell_count-cells).aligned)
+slice_bounds-align-end-18 c = sym
+    (length-take-le _ _ (checks (goal.at.slice_bounds-align-end-18 c).After-cell_count-cells).aligned)
 
 pub align-requires : goal.align-requires
 align-requires c =

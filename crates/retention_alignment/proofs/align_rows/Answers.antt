@@ -2,12 +2,9 @@
 -- (`up_to i`), and the length is as it was.
 use mathlib.Core.Path.{refl, sym, ap, ◌∙◌}
 use mathlib.Core.List.{map}
-use Prim.Native.Nat.{◌-◌, ◌*◌, ◌<◌}
 use native.Mathlib.Omega.{arith}
-use borrow.Author.Rules.{rules, scaled_Fits}
-use mir.Syntax.{w64}
-use mir.Val.{Fits}
-use lib.ListN.{length, get_or, length-set, length-map, get_or-map}
+use borrow.Author.Rules.{rules}
+use lib.ListN.{length, length-set, length-map, get_or-map}
 use lib.Ieee.{nan}
 use Rattle.status.proofs.Laws.{below_at}
 use Rattle.matrix.proofs.Lists.{over, zipped_over}
@@ -29,10 +26,20 @@ pub bounds-max_rt-k : goal.bounds-max_rt-k
 bounds-max_rt-k c = below_at (length c.args.max_rt.now) c.args.file.now c.loop-i.i c.requires.2 c.loop-i-test.true
 
 pub bounds-slope-k : goal.bounds-slope-k
-bounds-slope-k c = omega (arith, below_at (length c.args.max_rt.now) c.args.file.now c.loop-i.i c.requires.2 c.loop-i-test.true, c.requires.3)
+bounds-slope-k c = omega (
+  arith,
+  below_at (length c.args.max_rt.now) c.args.file.now c.loop-i.i c.requires.2
+      c.loop-i-test.true,
+  c.requires.3,
+)
 
 pub bounds-intercept-k : goal.bounds-intercept-k
-bounds-intercept-k c = omega (arith, below_at (length c.args.max_rt.now) c.args.file.now c.loop-i.i c.requires.2 c.loop-i-test.true, c.requires.4)
+bounds-intercept-k c = omega (
+  arith,
+  below_at (length c.args.max_rt.now) c.args.file.now c.loop-i.i c.requires.2
+      c.loop-i-test.true,
+  c.requires.4,
+)
 
 pub loop-i-preserved : goal.loop-i-preserved
 loop-i-preserved c =

@@ -1,6 +1,6 @@
 -- `rt_matrix::fit_columns` meets its contract: the sums and the squares, taken row by row, are those of each file's
 -- points.
-use mathlib.Core.Path.{sym, ◌∙◌}
+use mathlib.Core.Path.{◌∙◌}
 use native.Mathlib.Omega.{arith}
 use lib.ListN.{length}
 use Rattle.rt_matrix.specs.Cells.{sums_of, Sized}
@@ -13,15 +13,22 @@ add_peptides-requires c =
     let a = c.args in
     let g = c.requires.shaped_at in (
       g.0,
-      fresh_sized (length a.max.now) a.len.now a.dot.now a.sum_x.now a.sum_y.now a.x_mean.now a.sx2.now c.requires.fresh,
-      λ k. omega (arith, g.1, fresh_count (length a.max.now) a.len.now a.dot.now a.sum_x.now a.sum_y.now a.x_mean.now a.sx2.now c.requires.fresh k),
+      fresh_sized (length a.max.now) a.len.now a.dot.now a.sum_x.now a.sum_y.now a.x_mean.now a.sx2.now
+          c.requires.fresh,
+      λ k. omega (
+        arith,
+        g.1,
+        fresh_count (length a.max.now) a.len.now a.dot.now a.sum_x.now a.sum_y.now
+            a.x_mean.now a.sx2.now c.requires.fresh k,
+      ),
       omega (arith, g.2),
     )
 
 pub x_means-requires : goal.x_means-requires
 x_means-requires c =
     let a = c.args in
-    let z = fresh_sized (length a.max.now) a.len.now a.dot.now a.sum_x.now a.sum_y.now a.x_mean.now a.sx2.now c.requires.fresh in
+    let z = fresh_sized (length a.max.now) a.len.now a.dot.now a.sum_x.now a.sum_y.now a.x_mean.now a.sx2.now
+    c.requires.fresh in
     (omega (arith, z.len, z.sum_x), omega (arith, z.len, c.requires.fresh.means))
 
 pub add_peptides-requires-2 : goal.add_peptides-requires-2
@@ -30,21 +37,27 @@ add_peptides-requires-2 c =
     let g = c.requires.shaped_at in (
       g.0,
       omega (arith, c.requires.fresh.means),
-      fresh_squares (length a.max.now) a.len.now a.dot.now a.sum_x.now a.sum_y.now a.x_mean.now a.sx2.now c.requires.fresh,
+      fresh_squares (length a.max.now) a.len.now a.dot.now a.sum_x.now a.sum_y.now a.x_mean.now a.sx2.now
+          c.requires.fresh,
       omega (arith, g.2),
     )
 
 pub store_alignments-requires : goal.store_alignments-requires
 store_alignments-requires c =
     let a = c.args in
-    let z = fresh_sized (length a.max.now) a.len.now a.dot.now a.sum_x.now a.sum_y.now a.x_mean.now a.sx2.now c.requires.fresh in (
+    let z = fresh_sized (length a.max.now) a.len.now a.dot.now a.sum_x.now a.sum_y.now a.x_mean.now a.sx2.now
+    c.requires.fresh in (
       record {
         len = omega (arith, z.len);
         dot = omega (arith, z.dot);
         sum_x = omega (arith, z.sum_x);
         sum_y = omega (arith, z.sum_y);
       },
-      omega (arith, fresh_squares (length a.max.now) a.len.now a.dot.now a.sum_x.now a.sum_y.now a.x_mean.now a.sx2.now c.requires.fresh),
+      omega (
+        arith,
+        fresh_squares (length a.max.now) a.len.now a.dot.now a.sum_x.now a.sum_y.now a.x_mean.now
+            a.sx2.now c.requires.fresh,
+      ),
       c.requires.shaped_at.3,
     )
 
@@ -53,8 +66,10 @@ returns c =
     let a = c.args in
     let w = c.requires.fresh in
     let n = length a.max.now in
-    let z = fresh_sized (length a.max.now) a.len.now a.dot.now a.sum_x.now a.sum_y.now a.x_mean.now a.sx2.now c.requires.fresh in
-    let squares = fresh_squares (length a.max.now) a.len.now a.dot.now a.sum_x.now a.sum_y.now a.x_mean.now a.sx2.now c.requires.fresh in
+    let z = fresh_sized (length a.max.now) a.len.now a.dot.now a.sum_x.now a.sum_y.now a.x_mean.now a.sx2.now
+    c.requires.fresh in
+    let squares = fresh_squares (length a.max.now) a.len.now a.dot.now a.sum_x.now a.sum_y.now a.x_mean.now
+    a.sx2.now c.requires.fresh in
     let len = c.add_peptides.new.len in
     let dot = c.add_peptides.new.dot in
     let sum_x = c.add_peptides.new.sum_x in

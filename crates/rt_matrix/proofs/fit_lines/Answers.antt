@@ -1,10 +1,6 @@
 -- `rt_matrix::fit_lines` meets its contract: by `fit_many` for many files, and for few the parts of the arrays that it
 -- lends are fresh columns.
-use mathlib.Core.Path.{sym}
-use Prim.Native.Nat.{ℕ, ◌≤◌}
 use lib.ListN.{length}
-use Rattle.float.specs.Number.{zero64}
-use Rattle.matrix.proofs.Lists.{length_take_replicate}
 use Rattle.rt_matrix.proofs.Parts.{fresh_parts}
 use Rattle.rt_matrix.proofs.fit_lines.Goals as goal
 

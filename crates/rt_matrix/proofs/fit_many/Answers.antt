@@ -1,10 +1,6 @@
 -- `rt_matrix::fit_many` meets its contract: the parts of the arrays that it lends are fresh columns.
-use mathlib.Core.Path.{sym}
-use Prim.Native.Nat.{ℕ}
 use lib.ListN.{length}
-use Rattle.float.specs.Number.{zero64}
 use Rattle.status.specs.Limits.{max_files}
-use Rattle.matrix.proofs.Lists.{length_take_replicate}
 use Rattle.rt_matrix.proofs.Parts.{fresh_parts}
 use Rattle.rt_matrix.proofs.fit_many.Goals as goal
 

@@ -1,7 +1,7 @@
 -- `rt_matrix::store_alignments` meets its contract. The loop's invariant: the first f records are written (`up_to f`),
 -- and the lengths are as they were.
 use mathlib.Core.Path.{◌≡◌, refl, sym, ap, ◌∙◌}
-use Prim.Native.Nat.{◌-◌, ◌<◌}
+use Prim.Native.Nat.{◌<◌}
 use native.Mathlib.Omega.{arith}
 use borrow.Author.Rules.{rules}
 use lib.ListN.{length, get_or, length-set}
@@ -34,7 +34,8 @@ loop-f-preserved c =
     length_sums a.len.now a.dot.now a.sum_x.now a.sum_y.now files c.requires.0 in
     let made_long : length made ≡ files = length_from a.max.now sums a.sx2.now sums_long c.requires.1 in
     let held =
-    columns a.max_rt.now a.slope.now a.intercept.now a.used.now a.max_rt_exact.now a.slope_exact.now a.intercept_exact.now in
+    columns a.max_rt.now a.slope.now a.intercept.now a.used.now a.max_rt_exact.now a.slope_exact.now
+    a.intercept_exact.now in
     let now_held =
     columns l.max_rt l.slope l.intercept l.used l.max_rt_exact l.slope_exact l.intercept_exact in
     let h : f < files = c.loop-f-test.true in
@@ -69,6 +70,7 @@ returns c =
     let made_long : length (records_from a.max.now sums a.sx2.now) ≡ files =
     length_from a.max.now sums a.sx2.now sums_long c.requires.1 in
     let held =
-    columns a.max_rt.now a.slope.now a.intercept.now a.used.now a.max_rt_exact.now a.slope_exact.now a.intercept_exact.now in
+    columns a.max_rt.now a.slope.now a.intercept.now a.used.now a.max_rt_exact.now a.slope_exact.now
+    a.intercept_exact.now in
     let l = length_records held files c.requires.2 in
     c.loop-f.invariant.2 ∙ up_to_all _ _ _ _ (omega arith) ∙ zipped_over _ _ (l ∙ sym made_long)

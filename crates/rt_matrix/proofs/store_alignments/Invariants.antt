@@ -31,7 +31,9 @@ invariant-loop-f l =
     (l.f ≤ length l.max)
     × EachOf (length l.max) (columns l.max_rt l.slope l.intercept l.used l.max_rt_exact l.slope_exact l.intercept_exact)
     × (records_of (columns l.max_rt l.slope l.intercept l.used l.max_rt_exact l.slope_exact l.intercept_exact)
-    ≡ up_to over l.f (records_of (columns l.initial.max_rt l.initial.slope l.initial.intercept l.initial.used l.initial.max_rt_exact l.initial.slope_exact l.initial.intercept_exact)) (records_from l.max (sums_of l.len l.dot l.sum_x l.sum_y) l.sx2))
+    ≡ up_to over l.f (records_of (columns l.initial.max_rt l.initial.slope l.initial.intercept l.initial.used
+    l.initial.max_rt_exact l.initial.slope_exact l.initial.intercept_exact))
+    (records_from l.max (sums_of l.len l.dot l.sum_x l.sum_y) l.sx2))
 
 abbrev pub decreases-loop-f : goal.decreases-loop-f
 decreases-loop-f l = length l.max - l.f

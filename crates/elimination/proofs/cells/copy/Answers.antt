@@ -1,7 +1,6 @@
 -- `elimination::cells::copy` meets its contract. The loop's invariant: the first j cells are made anew (`made j`),
 -- and the length is as it was.
 use mathlib.Core.Path.{refl, ◌∙◌}
-use Prim.Native.Nat.{◌-◌}
 use native.Mathlib.Omega.{arith}
 use native.Mathlib.Numerals.{add-one}
 use lib.ListN.{length-set}

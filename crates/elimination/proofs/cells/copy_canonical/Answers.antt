@@ -1,7 +1,6 @@
 -- `elimination::cells::copy_canonical` meets its contract. The loop's invariant: the first j cells are made anew
 -- (`made j`), and the length is as it was.
 use mathlib.Core.Path.{refl, ◌∙◌}
-use Prim.Native.Nat.{◌-◌}
 use native.Mathlib.Omega.{arith}
 use native.Mathlib.Numerals.{add-one}
 use lib.ListN.{length-set}
@@ -14,8 +13,12 @@ pub loop-j-init : goal.loop-j-init
 loop-j-init c = (search rules, made_none _ _, refl)
 
 pub loop-j-preserved : goal.loop-j-preserved
-loop-j-preserved c =
-    (omega arith, rw (c.canonical64.ensures, c.loop-j.invariant.1, add-one) (made_suc _ _ _ nan), simp length-set c.loop-j.invariant.2)
+loop-j-preserved c = (
+  omega arith,
+  rw (c.canonical64.ensures, c.loop-j.invariant.1, add-one) (made_suc _ _ _ nan),
+  simp length-set
+      c.loop-j.invariant.2,
+)
 
 pub returns : goal.returns
 returns c = c.loop-j.invariant.1 ∙ made_copy _ _ _ _ (search rules) (omega arith)

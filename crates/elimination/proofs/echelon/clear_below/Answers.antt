@@ -2,7 +2,7 @@
 -- it are the part that was lent.
 use mathlib.Core.Path.{◌≡◌, sym, ap, ◌∙◌}
 use mathlib.Core.List.{List, ◌++◌, map}
-use Prim.Native.Nat.{ℕ, suc, ◌+◌, ◌-◌, ◌*◌, ◌≤◌, ◌<◌}
+use Prim.Native.Nat.{ℕ, suc, ◌+◌, ◌-◌, ◌*◌, ◌<◌}
 use native.Mathlib.Omega.{arith}
 use native.Mathlib.Numerals.{add-one}
 use lib.ListN.{length, take, drop, length-drop}
@@ -37,7 +37,8 @@ put_below n w h k e cells pivot part lt l ee here len r =
     let at : e ≡ suc h * w = rw (← add-one h) ee in
     let tail : rows_of w (n - suc h) (drop e cells) ≡ drop (suc h) (rows_of w n cells) =
     rw at (sym (drop_rows_of w n (suc h) cells lt)) in
-    let new : rows_of w (n - suc h) part ≡ map (cleared k (row_of (rows_of w n cells) h)) (drop (suc h) (rows_of w n cells)) =
+    let new : rows_of w (n - suc h) part
+    ≡ map (cleared k (row_of (rows_of w n cells) h)) (drop (suc h) (rows_of w n cells)) =
     rw (m, len, rest e cells, here) at r
     ∙ ap {B = List (List Float)} (map (cleared k (row_of (rows_of w n cells) h))) tail in
     ap (rows_of w n) (put_rest e cells part)

@@ -1,7 +1,6 @@
 -- `elimination::echelon::clear_rows` meets its contract. The loop's invariant: column k is cleared in the first i
 -- rows (`RowsMade`).
 use mathlib.Core.Path.{refl, sym, ◌∙◌}
-use Prim.Native.Nat.{◌-◌}
 use native.Mathlib.Nat.{zero-mul}
 use native.Mathlib.Omega.{arith}
 use lib.ListN.{length}
@@ -41,15 +40,15 @@ slice_bounds-clear_column-end c = omega (arith, (here c).fits)
 pub clear_column-requires : goal.clear_column-requires
 clear_column-requires c =
     let t =
-        turn (length c.args.pivot.now) c.args.m (λ j. cleared c.args.k c.args.pivot.now)
-        c.args.cells.now c.loop-i.cells c.loop-i.at c.loop-i.i c.loop-i.invariant c.loop-i-test.true c.requires.0 in
+    turn (length c.args.pivot.now) c.args.m (λ j. cleared c.args.k c.args.pivot.now)
+    c.args.cells.now c.loop-i.cells c.loop-i.at c.loop-i.i c.loop-i.invariant c.loop-i-test.true c.requires.0 in
     (omega (arith, t.part, c.requires.1), t.part)
 
 pub loop-i-preserved : goal.loop-i-preserved
 loop-i-preserved c =
     let t =
-        turn (length c.args.pivot.now) c.args.m (λ j. cleared c.args.k c.args.pivot.now)
-        c.args.cells.now c.loop-i.cells c.loop-i.at c.loop-i.i c.loop-i.invariant c.loop-i-test.true c.requires.0 in
+    turn (length c.args.pivot.now) c.args.m (λ j. cleared c.args.k c.args.pivot.now)
+    c.args.cells.now c.loop-i.cells c.loop-i.at c.loop-i.i c.loop-i.invariant c.loop-i-test.true c.requires.0 in
     t.next c.clear_column.new.row c.clear_column.auto.row c.clear_column.ensures
 
 pub shape_of-cells : goal.shape_of-cells

@@ -32,7 +32,8 @@ module _ (n w h k : ℕ) where
     chosen : get_or cells (a + k) nan ≡ cell k (row_of (rows_of w n cells) (pivot_row h k (rows_of w n cells)))
     chosen =
         rw (at, is)
-        (sym (get_d_rows_of w n (pivot_row h k (rows_of w n cells)) k cells nan (pivot_row_lem cells lk lh) (omega arith)))
+        (sym (get_d_rows_of w n (pivot_row h k (rows_of w n cells)) k cells nan (pivot_row_lem cells lk lh)
+        (omega arith)))
 
     left : n - k ≡ suc (n - (k + 1))
     left = omega arith
@@ -69,7 +70,7 @@ pivot_place n w h k p cells lk lh e = let r = pivot_row_lem n w h k cells lk lh 
 abbrev two_rows : (n w h p a b : ℕ) (cells : List Float) → length cells ≡ n * w → h < n → a ≡ h * w → p < n → b ≡ p * w
     → TwoRows w a b (length cells)
 two_rows n w h p a b cells e lh ea lp eb =
-    record { rows = n; i = h; j = p; count = e; first = (lh, ea); second = (lp, eb); }
+    record { rows = n; i = h; j = p; count = e; first = (lh, ea); second = (lp, eb) }
 
 pub loop-k-init : goal.loop-k-init
 loop-k-init c =
@@ -88,23 +89,31 @@ pivot-i-requires c =
 
 pub cell_count-at_i-requires : goal.cell_count-at_i-requires
 cell_count-at_i-requires c =
-    let row = pivot_place c.args.n c.args.w c.loop-k.h c.loop-k.k c.pivot-i.result c.loop-k.cells c.loop-k-test.true (omega arith) c.pivot-i.ensures in
+    let row =
+    pivot_place c.args.n c.args.w c.loop-k.h c.loop-k.k c.pivot-i.result c.loop-k.cells c.loop-k-test.true
+    (omega arith) c.pivot-i.ensures in
     let within = inside c.requires c.pivot-i.result row in
     (omega (arith, row, c.requires.order), omega (arith, c.requires.wide), omega (arith, within))
 
 pub overflow_add-p : goal.overflow_add-p
 overflow_add-p c =
-    let row = pivot_place c.args.n c.args.w c.loop-k.h c.loop-k.k c.pivot-i.result c.loop-k.cells c.loop-k-test.true (omega arith) c.pivot-i.ensures in
+    let row =
+    pivot_place c.args.n c.args.w c.loop-k.h c.loop-k.k c.pivot-i.result c.loop-k.cells c.loop-k-test.true
+    (omega arith) c.pivot-i.ensures in
     omega (arith, inside c.requires c.pivot-i.result row, c.cell_count-at_i.ensures)
 
 pub offset_bounds-cells-p : goal.offset_bounds-cells-p
 offset_bounds-cells-p c =
-    let row = pivot_place c.args.n c.args.w c.loop-k.h c.loop-k.k c.pivot-i.result c.loop-k.cells c.loop-k-test.true (omega arith) c.pivot-i.ensures in
+    let row =
+    pivot_place c.args.n c.args.w c.loop-k.h c.loop-k.k c.pivot-i.result c.loop-k.cells c.loop-k-test.true
+    (omega arith) c.pivot-i.ensures in
     omega (arith, inside c.requires c.pivot-i.result row, c.cell_count-at_i.ensures)
 
 pub bounds-cells-p : goal.bounds-cells-p
 bounds-cells-p c =
-    let row = pivot_place c.args.n c.args.w c.loop-k.h c.loop-k.k c.pivot-i.result c.loop-k.cells c.loop-k-test.true (omega arith) c.pivot-i.ensures in
+    let row =
+    pivot_place c.args.n c.args.w c.loop-k.h c.loop-k.k c.pivot-i.result c.loop-k.cells c.loop-k-test.true
+    (omega arith) c.pivot-i.ensures in
     omega (arith, inside c.requires c.pivot-i.result row, c.cell_count-at_i.ensures, c.requires.left)
 
 pub overflow_add-k : goal.overflow_add-k
@@ -129,14 +138,20 @@ loop-k-preserved-then-cells-p c =
 
 pub swap_rows_at-requires : goal.swap_rows_at-requires
 swap_rows_at-requires c =
-    let row = pivot_place c.args.n c.args.w c.loop-k.h c.loop-k.k c.pivot-i.result c.loop-k.cells c.loop-k-test.true (omega arith) c.pivot-i.ensures in
+    let row =
+    pivot_place c.args.n c.args.w c.loop-k.h c.loop-k.k c.pivot-i.result c.loop-k.cells c.loop-k-test.true
+    (omega arith) c.pivot-i.ensures in
     two_rows c.args.n c.args.w c.loop-k.h c.pivot-i.result c.loop-k.at_h c.cell_count-at_i.result c.loop-k.cells
     (c.loop-k.invariant.3 ∙ c.requires.count) (omega (arith, c.loop-k-test.true)) c.loop-k.invariant.1
     row c.cell_count-at_i.ensures
 
 pub clear_below-requires : goal.clear_below-requires
-clear_below-requires c =
-    (shape_kept c.requires (c.swap_rows_at.auto.cells ∙ c.loop-k.invariant.3), omega arith, c.loop-k.invariant.1, c.loop-k-test.true)
+clear_below-requires c = (
+  shape_kept c.requires (c.swap_rows_at.auto.cells ∙ c.loop-k.invariant.3),
+  omega arith,
+  c.loop-k.invariant.1,
+  c.loop-k-test.true,
+)
 
 pub overflow_add-at_h : goal.overflow_add-at_h
 overflow_add-at_h c =
@@ -163,8 +178,8 @@ loop-k-preserved c =
     let old : List (List Float) = rows_of a.w a.n l.cells in
     let row = pivot_place a.n a.w l.h l.k i l.cells t (omega arith) c.pivot-i.ensures in
     let two =
-        two_rows a.n a.w l.h i l.at_h c.cell_count-at_i.result l.cells (l.invariant.3 ∙ c.requires.count)
-        (omega (arith, t)) l.invariant.1 row c.cell_count-at_i.ensures in
+    two_rows a.n a.w l.h i l.at_h c.cell_count-at_i.result l.cells (l.invariant.3 ∙ c.requires.count)
+    (omega (arith, t)) l.invariant.1 row c.cell_count-at_i.ensures in
     let exchanged : rows_of a.w a.n x.new.cells ≡ swapped l.h i old =
     ap (rows_of a.w a.n) (x.ensures two)
     ∙ swapped_rows a.w a.n l.h i l.cells (omega arith) row (l.invariant.3 ∙ c.requires.count) in

@@ -1,7 +1,6 @@
 -- `elimination::echelon::echelon` meets its contract. The loop's invariant: what is left of the columns gives what
 -- all of them give; there are at most k pivot rows above, and row h, to which the next one comes, starts at `at_h`.
 use mathlib.Core.Path.{◌≡◌}
-use mathlib.Core.List.{[]}
 use Prim.Native.Nat.{◌*◌, ◌≤◌, ◌-◌}
 use lib.ListN.{length}
 use Rattle.matrix.specs.Rows.{rows_of}

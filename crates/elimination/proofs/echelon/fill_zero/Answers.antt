@@ -2,7 +2,7 @@
 -- first i rows (`made i`), and row i starts at `at`.
 use mathlib.Core.Path.{◌≡◌, refl, sym, ◌∙◌}
 use mathlib.Core.List.{List, []}
-use Prim.Native.Nat.{ℕ, suc, ◌+◌, ◌*◌, ◌≤◌, ◌<◌, ◌-◌}
+use Prim.Native.Nat.{ℕ, suc, ◌+◌, ◌*◌, ◌≤◌, ◌<◌}
 use native.Mathlib.Nat.{zero-mul}
 use native.Mathlib.Omega.{arith}
 use native.Mathlib.Numerals.{add-one}
@@ -58,7 +58,8 @@ loop-i-preserved c = (
   omega arith,
   omega arith,
   rw (add-one, c.loop-i.invariant.1)
-      (turn c.args.n c.args.w c.loop-i.i c.args.eps (rows_of c.args.w c.args.n c.args.cells.now) c.loop-i.cells c.loop-i-test.true c.requires.left c.loop-i.invariant.2),
+      (turn c.args.n c.args.w c.loop-i.i c.args.eps (rows_of c.args.w c.args.n c.args.cells.now) c.loop-i.cells
+      c.loop-i-test.true c.requires.left c.loop-i.invariant.2),
   simp length-set c.loop-i.invariant.3,
 )
 

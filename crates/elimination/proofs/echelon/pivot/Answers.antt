@@ -2,7 +2,7 @@
 -- the best so far, is what it finds in all; row i starts at `at`.
 use mathlib.Core.Path.{◌≡◌, refl, sym, ◌∙◌}
 use mathlib.Core.List.{List}
-use Prim.Native.Nat.{◌+◌, ◌≤◌, ◌<◌, ◌-◌}
+use Prim.Native.Nat.{◌+◌, ◌≤◌, ◌<◌}
 use native.Mathlib.Omega.{arith}
 use native.Mathlib.Numerals.{add-one}
 use lib.ListN.{length, get_or, drop_of_length-le}
@@ -49,8 +49,13 @@ loop-i-preserved-then-x-max c =
     let h : c.loop-i.i < length rows = rw length_rows_of c.loop-i-test.true in
     let here : cell c.args.k (row_of rows c.loop-i.i) ≡ get_or c.args.cells.now (c.loop-i.at + c.args.k) nan =
     rw c.loop-i.invariant.1
-    (get_d_rows_of c.args.w c.args.n c.loop-i.i c.args.k c.args.cells.now nan c.loop-i-test.true (omega arith)) in
-    (omega arith, omega arith, rw add-one (sym (largest_taken c.args.k rows c.loop-i.i c.loop-i.best c.loop-i.max _ h here c.if-x-max.true) ∙ c.loop-i.invariant.2))
+    (get_d_rows_of c.args.w c.args.n c.loop-i.i c.args.k c.args.cells.now nan c.loop-i-test.true (omega arith)) in (
+      omega arith,
+      omega arith,
+      rw add-one
+          (sym (largest_taken c.args.k rows c.loop-i.i c.loop-i.best c.loop-i.max _ h here c.if-x-max.true)
+          ∙ c.loop-i.invariant.2),
+    )
 
 pub loop-i-preserved : goal.loop-i-preserved
 loop-i-preserved c =
@@ -58,8 +63,13 @@ loop-i-preserved c =
     let h : c.loop-i.i < length rows = rw length_rows_of c.loop-i-test.true in
     let here : cell c.args.k (row_of rows c.loop-i.i) ≡ get_or c.args.cells.now (c.loop-i.at + c.args.k) nan =
     rw c.loop-i.invariant.1
-    (get_d_rows_of c.args.w c.args.n c.loop-i.i c.args.k c.args.cells.now nan c.loop-i-test.true (omega arith)) in
-    (omega arith, omega arith, rw add-one (sym (largest_passed c.args.k rows c.loop-i.i c.loop-i.best c.loop-i.max _ h here c.if-x-max.false) ∙ c.loop-i.invariant.2))
+    (get_d_rows_of c.args.w c.args.n c.loop-i.i c.args.k c.args.cells.now nan c.loop-i-test.true (omega arith)) in (
+      omega arith,
+      omega arith,
+      rw add-one
+          (sym (largest_passed c.args.k rows c.loop-i.i c.loop-i.best c.loop-i.max _ h here c.if-x-max.false)
+          ∙ c.loop-i.invariant.2),
+    )
 
 pub returns : goal.returns
 unfolding largest

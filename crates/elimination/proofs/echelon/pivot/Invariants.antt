@@ -10,7 +10,9 @@ use Rattle.elimination.proofs.echelon.pivot.Given as goal
 
 abbrev pub invariant-loop-i : goal.invariant-loop-i
 invariant-loop-i l =
-    (l.i ≤ l.n) × (l.at ≡ l.i * l.w) × (largest l.i l.best l.max (map (cell l.k) (drop l.i (rows_of l.w l.n l.cells))) ≡ pivot_row l.h l.k (rows_of l.w l.n l.cells))
+    (l.i ≤ l.n) × (l.at ≡ l.i * l.w)
+    × (largest l.i l.best l.max (map (cell l.k) (drop l.i (rows_of l.w l.n l.cells)))
+    ≡ pivot_row l.h l.k (rows_of l.w l.n l.cells))
 
 abbrev pub decreases-loop-i : goal.decreases-loop-i
 decreases-loop-i l = l.n - l.i

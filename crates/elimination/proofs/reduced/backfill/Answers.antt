@@ -2,10 +2,9 @@
 -- up, gives what all of them give; row i starts at `at`, and past the last row the cells end; the flags stay true.
 use mathlib.Core.Path.{◌≡◌, refl, sym, ap, ◌∙◌}
 use mathlib.Core.List.{List}
-use Prim.Native.Nat.{ℕ, suc, ◌*◌, ◌≤◌, ◌<◌, ◌-◌}
+use Prim.Native.Nat.{ℕ, suc, ◌<◌, ◌-◌}
 use native.Mathlib.Nat.{le_refl}
 use native.Mathlib.Omega.{arith}
-use lib.ListN.{length}
 use lib.Ieee.{Float}
 use Rattle.matrix.specs.Rows.{rows_of}
 use Rattle.matrix.proofs.Laws.{length_rows_of}
@@ -34,12 +33,17 @@ loop-i-init c =
     )
 
 pub overflow_sub-at : goal.overflow_sub-at
-overflow_sub-at c = omega (arith, (previous_start c.loop-i.at c.loop-i.i c.args.w c.loop-i-test.true c.loop-i.invariant.1).0)
+overflow_sub-at c =
+    omega (arith, (previous_start c.loop-i.at c.loop-i.i c.args.w c.loop-i-test.true c.loop-i.invariant.1).0)
 
 pub clear_above-requires : goal.clear_above-requires
 clear_above-requires c =
-    let l = c.loop-i in
-    (shape_kept c.requires l.invariant.2, omega arith, (previous_start l.at l.i c.args.w c.loop-i-test.true l.invariant.1).1, l.invariant.4)
+    let l = c.loop-i in (
+      shape_kept c.requires l.invariant.2,
+      omega arith,
+      (previous_start l.at l.i c.args.w c.loop-i-test.true l.invariant.1).1,
+      l.invariant.4,
+    )
 
 pub loop-i-preserved : goal.loop-i-preserved
 loop-i-preserved c =

@@ -1,7 +1,7 @@
 -- `elimination::reduced::backfill` meets its contract. The loop's invariant: what is left of the rows, from row i - 1
 -- up, gives what all of them give; row i starts at `at`, and past the last row the cells end; the flags stay true.
 use mathlib.Core.Path.{◌≡◌}
-use Prim.Native.Nat.{◌*◌, ◌≤◌, ◌-◌}
+use Prim.Native.Nat.{◌*◌, ◌≤◌}
 use lib.ListN.{length}
 use Rattle.matrix.specs.Rows.{rows_of}
 use Rattle.elimination.specs.Elimination.{backfill_from, backfill}

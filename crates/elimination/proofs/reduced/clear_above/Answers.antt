@@ -64,11 +64,13 @@ slice_bounds-first_nonzero-end c =
     sym (length-take-le c.args.n c.row_copy-row.result (omega (arith, c.requires.0.order, c.row_copy-row.ensures.1)))
 
 pub slice_bounds-subtract_multiples-end : goal.slice_bounds-subtract_multiples-end
-slice_bounds-subtract_multiples-end c = omega (arith, inside_at c.requires.0 c.args.i c.args.start c.requires.1 c.requires.2)
+slice_bounds-subtract_multiples-end c =
+    omega (arith, inside_at c.requires.0 c.args.i c.args.start c.requires.1 c.requires.2)
 
 pub slice_bounds-subtract_multiples-end-then-j-n : goal.slice_bounds-subtract_multiples-end-then-j-n
 slice_bounds-subtract_multiples-end-then-j-n c =
-    sym (front_length c.args.start c.args.w c.args.cells.now (inside_at c.requires.0 c.args.i c.args.start c.requires.1 c.requires.2).0)
+    sym (front_length c.args.start c.args.w c.args.cells.now
+    (inside_at c.requires.0 c.args.i c.args.start c.requires.1 c.requires.2).0)
 
 pub slice_bounds-subtract_multiples-end-then-j-n-2 : goal.slice_bounds-subtract_multiples-end-then-j-n-2
 slice_bounds-subtract_multiples-end-then-j-n-2 c =

@@ -1,8 +1,9 @@
 -- `elimination::reduced::left_solved` meets its contract. The loop's invariant: what is left of the rows gives what
 -- all of them give; row i starts at `at`.
 use mathlib.Core.Path.{refl, sym, ap, ◌∙◌}
+use mathlib.Core.Bool.{not}
 use mathlib.Core.List.{List}
-use Prim.Native.Nat.{suc, ◌≤◌, ◌<◌, ◌-◌}
+use Prim.Native.Nat.{suc, ◌≤◌, ◌<◌}
 use native.Mathlib.Nat.{zero-mul}
 use native.Mathlib.Omega.{arith}
 use native.Mathlib.Numerals.{add-one}
@@ -50,7 +51,7 @@ returns-then-not-row_solved c =
     test_fails r.result (row_solved c.loop-i.i 0 (take c.args.n (row_of rows c.loop-i.i)))
     (solved_from c.args.n (suc c.loop-i.i) (drop (suc c.loop-i.i) rows))
     (solved_from c.args.n c.loop-i.i (drop c.loop-i.i rows)) (left_solved c.args.n rows) is
-    (left_solved_row c.args.n c.loop-i.i rows h) c.loop-i.invariant.2 c.if-not-row_solved.true-raw
+    (left_solved_row c.args.n c.loop-i.i rows h) c.loop-i.invariant.2 (ap not c.if-not-row_solved.true)
 
 pub overflow_add-at : goal.overflow_add-at
 overflow_add-at c =
@@ -74,7 +75,7 @@ loop-i-preserved c =
           (test_holds r.result (row_solved c.loop-i.i 0 (take c.args.n (row_of rows c.loop-i.i)))
           (solved_from c.args.n (suc c.loop-i.i) (drop (suc c.loop-i.i) rows))
           (solved_from c.args.n c.loop-i.i (drop c.loop-i.i rows)) (left_solved c.args.n rows) is
-          (left_solved_row c.args.n c.loop-i.i rows h) c.loop-i.invariant.2 c.if-not-row_solved.false-raw),
+          (left_solved_row c.args.n c.loop-i.i rows h) c.loop-i.invariant.2 (ap not c.if-not-row_solved.false)),
     )
 
 pub returns : goal.returns

@@ -9,7 +9,8 @@ use Rattle.elimination.proofs.reduced.left_solved.Given as goal
 
 abbrev pub invariant-loop-i : goal.invariant-loop-i
 invariant-loop-i l =
-    (l.i ≤ l.n) × (l.at ≡ l.i * l.w) × (solved_from l.n l.i (drop l.i (rows_of l.w l.n l.cells)) ≡ left_solved l.n (rows_of l.w l.n l.cells))
+    (l.i ≤ l.n) × (l.at ≡ l.i * l.w)
+    × (solved_from l.n l.i (drop l.i (rows_of l.w l.n l.cells)) ≡ left_solved l.n (rows_of l.w l.n l.cells))
 
 abbrev pub decreases-loop-i : goal.decreases-loop-i
 decreases-loop-i l = l.n - l.i

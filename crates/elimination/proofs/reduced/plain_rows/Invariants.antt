@@ -10,7 +10,8 @@ use Rattle.elimination.proofs.reduced.plain_rows.Given as goal
 
 abbrev pub invariant-loop-i : goal.invariant-loop-i
 invariant-loop-i l =
-    (l.i ≤ l.n) × (l.at ≡ l.i * l.w) × (length l.plain ≡ max_order) × PlainRows l.i l.n l.plain (rows_of l.w l.n l.cells)
+    (l.i ≤ l.n) × (l.at ≡ l.i * l.w) × (length l.plain ≡ max_order)
+    × PlainRows l.i l.n l.plain (rows_of l.w l.n l.cells)
 
 abbrev pub decreases-loop-i : goal.decreases-loop-i
 decreases-loop-i l = l.n - l.i

@@ -1,6 +1,5 @@
 -- `elimination::reduced::reduce` meets its contract. The loop's invariant: the first i rows are divided (`RowsMade`).
 use mathlib.Core.Path.{refl, sym, ◌∙◌}
-use Prim.Native.Nat.{◌-◌}
 use native.Mathlib.Nat.{zero-mul}
 use native.Mathlib.Omega.{arith}
 use Rattle.matrix.proofs.Laws.{length_rows_of}
@@ -39,15 +38,15 @@ slice_bounds-divide_row-end c = omega (arith, (here c).fits)
 pub divide_row-requires : goal.divide_row-requires
 divide_row-requires c =
     let t =
-        turn c.args.w c.args.n (λ j. divided c.args.n)
-        c.args.cells.now c.loop-i.cells c.loop-i.at c.loop-i.i c.loop-i.invariant c.loop-i-test.true c.requires.count in
+    turn c.args.w c.args.n (λ j. divided c.args.n)
+    c.args.cells.now c.loop-i.cells c.loop-i.at c.loop-i.i c.loop-i.invariant c.loop-i-test.true c.requires.count in
     omega (arith, t.part, c.requires.left)
 
 pub loop-i-preserved : goal.loop-i-preserved
 loop-i-preserved c =
     let t =
-        turn c.args.w c.args.n (λ j. divided c.args.n)
-        c.args.cells.now c.loop-i.cells c.loop-i.at c.loop-i.i c.loop-i.invariant c.loop-i-test.true c.requires.count in
+    turn c.args.w c.args.n (λ j. divided c.args.n)
+    c.args.cells.now c.loop-i.cells c.loop-i.at c.loop-i.i c.loop-i.invariant c.loop-i-test.true c.requires.count in
     t.next c.divide_row.new.row c.divide_row.auto.row c.divide_row.ensures
 
 pub shape_of-cells : goal.shape_of-cells

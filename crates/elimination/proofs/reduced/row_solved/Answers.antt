@@ -1,8 +1,9 @@
 -- `elimination::reduced::row_solved` meets its contract. The loop's invariant: what is left of the row gives what the
 -- row gives.
-use mathlib.Core.Path.{refl}
-use mathlib.Core.List.{List, []}
-use Prim.Native.Nat.{suc, ◌≤◌, ◌<◌, ◌-◌}
+use mathlib.Core.Path.{refl, ap}
+use mathlib.Core.Bool.{not}
+use mathlib.Core.List.{List}
+use Prim.Native.Nat.{suc, ◌≤◌, ◌<◌}
 use native.Mathlib.Omega.{arith}
 use native.Mathlib.Numerals.{add-one}
 use lib.ListN.{length, drop, drop_of_length-le}
@@ -22,14 +23,19 @@ returns-then-not-cell_solved c =
     let h : c.loop-j.j < length row = omega arith in
     test_fails r.result _ (row_solved c.args.i (suc c.loop-j.j) (drop (suc c.loop-j.j) row)) _
     (row_solved c.args.i 0 row) r.ensures (row_solved_cell c.args.i c.loop-j.j row h) c.loop-j.invariant.1
-    c.if-not-cell_solved.true-raw
+    (ap not c.if-not-cell_solved.true)
 
 pub loop-j-preserved : goal.loop-j-preserved
 loop-j-preserved c =
     let row : List Float = c.args.row.now in
     let r = c.cell_solved in
-    let h : c.loop-j.j < length row = omega arith in
-    (omega arith, rw add-one (test_holds r.result _ (row_solved c.args.i (suc c.loop-j.j) (drop (suc c.loop-j.j) row)) _ (row_solved c.args.i 0 row) r.ensures (row_solved_cell c.args.i c.loop-j.j row h) c.loop-j.invariant.1 c.if-not-cell_solved.false-raw))
+    let h : c.loop-j.j < length row = omega arith in (
+      omega arith,
+      rw add-one
+          (test_holds r.result _ (row_solved c.args.i (suc c.loop-j.j) (drop (suc c.loop-j.j) row)) _
+          (row_solved c.args.i 0 row) r.ensures (row_solved_cell c.args.i c.loop-j.j row h) c.loop-j.invariant.1
+          (ap not c.if-not-cell_solved.false)),
+    )
 
 pub returns : goal.returns
 unfolding row_solved

@@ -1,7 +1,6 @@
 -- `elimination::reduced::row_solved` meets its contract. The loop's invariant: what is left of the row gives what the
 -- row gives.
 use mathlib.Core.Path.{◌≡◌}
-use mathlib.Core.List.{[]}
 use Prim.Native.Nat.{◌≤◌, ◌-◌}
 use lib.ListN.{length, drop}
 use Rattle.elimination.specs.Elimination.{row_solved}

@@ -2,7 +2,6 @@
 -- first i rows (`RowsMade`).
 use mathlib.Core.Path.{refl, sym, ◌∙◌, subst}
 use mathlib.Core.List.{List}
-use Prim.Native.Nat.{◌-◌}
 use native.Mathlib.Nat.{zero-mul}
 use native.Mathlib.Omega.{arith}
 use lib.ListN.{length}
@@ -47,8 +46,8 @@ bounds-plain-i c = omega (arith, c.requires.2)
 pub subtract_multiple-requires : goal.subtract_multiple-requires
 subtract_multiple-requires c =
     let t =
-        turn (length c.args.by.now) c.args.m (λ r. less_multiple c.args.j c.args.by.now)
-        c.args.cells.now c.loop-i.cells c.loop-i.at c.loop-i.i c.loop-i.invariant c.loop-i-test.true c.requires.0 in (
+    turn (length c.args.by.now) c.args.m (λ r. less_multiple c.args.j c.args.by.now)
+    c.args.cells.now c.loop-i.cells c.loop-i.at c.loop-i.i c.loop-i.invariant c.loop-i-test.true c.requires.0 in (
       omega (arith, t.part, c.requires.1),
       t.part,
       c.requires.3,
@@ -60,8 +59,8 @@ subtract_multiple-requires c =
 pub loop-i-preserved : goal.loop-i-preserved
 loop-i-preserved c =
     let t =
-        turn (length c.args.by.now) c.args.m (λ r. less_multiple c.args.j c.args.by.now)
-        c.args.cells.now c.loop-i.cells c.loop-i.at c.loop-i.i c.loop-i.invariant c.loop-i-test.true c.requires.0 in
+    turn (length c.args.by.now) c.args.m (λ r. less_multiple c.args.j c.args.by.now)
+    c.args.cells.now c.loop-i.cells c.loop-i.at c.loop-i.i c.loop-i.invariant c.loop-i-test.true c.requires.0 in
     t.next c.subtract_multiple.new.row c.subtract_multiple.auto.row c.subtract_multiple.ensures
 
 pub shape_of-cells : goal.shape_of-cells

@@ -1,7 +1,7 @@
 -- `elimination::row::clear_column` meets its contract: the cells up to k are the front of the new row, and the part
 -- that was lent is the rest of it.
 use mathlib.Core.Path.{◌≡◌, refl, ◌∙◌}
-use mathlib.Core.List.{List, []}
+use mathlib.Core.List.{List}
 use Prim.Native.Nat.{ℕ, suc, ◌+◌, ◌-◌, ◌<◌}
 use native.Mathlib.Numerals.{add-one}
 use native.Mathlib.Nat.{le_refl}
@@ -27,8 +27,16 @@ put_cleared : (k : ℕ) (row pivot part : List Float) → k < length row
 unfolding cleared
 put_cleared k row pivot part h e =
     put_rest (k + 1) (set row k zero64) part
-    ∙ rw
-    (e, rest (k + 1) (set row k zero64), rest (k + 1) pivot, add-one, take-suc-set row k zero64 h, drop-set-lt (suc k) row k zero64 (le_refl (suc k)), append_snoc) refl
+    ∙ rw (
+      e,
+      rest (k + 1) (set row k zero64),
+      rest (k + 1) pivot,
+      add-one,
+      take-suc-set row k zero64 h,
+      drop-set-lt
+          (suc k) row k zero64 (le_refl (suc k)),
+      append_snoc,
+    ) refl
 
 pub slice_bounds-subtract_scaled-count : goal.slice_bounds-subtract_scaled-count
 slice_bounds-subtract_scaled-count c = simp length-set (omega arith)

@@ -1,7 +1,6 @@
 -- `elimination::row::first_nonzero` meets its contract. The loop's invariant: the j cells passed are leading_zeros, so
 -- that j and the leading_zeros of the rest are those of the row.
 use mathlib.Core.Path.{◌≡◌}
-use mathlib.Core.List.{[]}
 use Prim.Native.Nat.{◌+◌, ◌≤◌, ◌-◌}
 use lib.ListN.{length, drop}
 use Rattle.elimination.specs.Elimination.{leading_zeros}

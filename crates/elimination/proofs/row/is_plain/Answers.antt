@@ -1,7 +1,6 @@
 -- `elimination::row::is_plain` meets its contract. The loop's invariant: no cell that was passed is -0.0.
 use mathlib.Core.Path.{sym, ◌∙◌}
 use mathlib.Core.Bool.{false≢true}
-use Prim.Native.Nat.{◌-◌}
 use native.Mathlib.Omega.{arith}
 use borrow.Author.Count.{below_more}
 use borrow.Author.Tests.{not-false}
@@ -19,7 +18,7 @@ loop-j-preserved c =
     let l = c.loop-j in (
       omega arith,
       below_more _ _ l.invariant.1 (record {
-        held = c.shared_slice_known-in-loop-j-1.given l.j;
+        held = c.type_inv.row l.j;
         plain = not-false _ (sym c.is_minus_zero.ensures ∙ c.if-is_minus_zero.false);
       }),
     )

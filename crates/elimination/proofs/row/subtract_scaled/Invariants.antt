@@ -10,7 +10,9 @@ use Rattle.elimination.proofs.row.subtract_scaled.Given as goal
 
 abbrev pub invariant-loop-j : goal.invariant-loop-j
 invariant-loop-j l =
-    (l.j ≤ length l.initial.dst) × (l.dst ≡ made (λ i x. less_scaled l.factor x (get_or l.src i nan)) l.j l.initial.dst) × (length l.dst ≡ length l.initial.dst)
+    (l.j ≤ length l.initial.dst)
+    × (l.dst ≡ made (λ i x. less_scaled l.factor x (get_or l.src i nan)) l.j l.initial.dst)
+    × (length l.dst ≡ length l.initial.dst)
 
 abbrev pub decreases-loop-j : goal.decreases-loop-j
 decreases-loop-j l = length l.initial.dst - l.j

@@ -2,7 +2,7 @@
 -- and row i of the cells and of the two sides starts at `at`, `l` and `r`.
 use mathlib.Core.Path.{◌≡◌, refl, sym, ap, ◌∙◌}
 use mathlib.Core.List.{List, [], ◌++◌}
-use Prim.Native.Nat.{ℕ, ◌+◌, ◌*◌, ◌≤◌, ◌<◌, ◌-◌}
+use Prim.Native.Nat.{ℕ, ◌+◌, ◌*◌, ◌<◌, ◌-◌}
 use native.Mathlib.Nat.{zero-mul, add_assoc, add-sub_cancel_left}
 use native.Mathlib.Omega.{arith}
 use native.Mathlib.Numerals.{add-one}
@@ -27,7 +27,8 @@ module _ (n c : ℕ) where
       let hl : i < length (rows_of n n left) = rw length_rows_of h in
       let hr : i < length (rows_of c n right) = rw length_rows_of h in
       rw (add-sub_cancel_left l n, add-sub_cancel_left r c, el, er)
-      (sym (row_augmented (rows_of n n left) (rows_of c n right) i hl hr ∙ rw (row_rows_of n n i left h, row_rows_of c n i right h) refl))
+      (sym (row_augmented (rows_of n n left) (rows_of c n right) i hl hr
+      ∙ rw (row_rows_of n n i left h, row_rows_of c n i right h) refl))
 
   many : (left right : List Float) → length (augmented (rows_of n n left) (rows_of c n right)) ≡ n
   many left right =
@@ -95,9 +96,15 @@ loop-i-preserved c =
       next_start c.loop-i.l c.loop-i.i n c.loop-i.invariant.2,
       next_start c.loop-i.r c.loop-i.i k c.loop-i.invariant.3,
       rw add-one
-          (row_turn (λ j x. row_of rows j) (rows_of (n + k) n c.args.cells.now) c.loop-i.i n (n + k) c.loop-i.at (c.loop-i.at + n + k - c.loop-i.at) c.loop-i.cells c.join.new.row c.loop-i.invariant.4 t (c.loop-i.invariant.5 ∙ c.requires.0) c.loop-i.invariant.1 (ap (λ (z : ℕ). z - c.loop-i.at) (add_assoc c.loop-i.at n k) ∙ add-sub_cancel_left c.loop-i.at (n + k)) (c.join.auto.row ∙ row)
-          (c.join.ensures ∙ joined n k c.loop-i.i c.loop-i.l c.loop-i.r c.args.left.now c.args.right.now t c.loop-i.invariant.2 c.loop-i.invariant.3)),
-      same_len_mid c.loop-i.at (c.loop-i.at + n + k - c.loop-i.at) c.loop-i.cells c.join.new.row c.join.auto.row ∙ c.loop-i.invariant.5,
+          (row_turn (λ j x. row_of rows j) (rows_of (n + k) n c.args.cells.now) c.loop-i.i n (n + k) c.loop-i.at
+          (c.loop-i.at + n + k - c.loop-i.at) c.loop-i.cells c.join.new.row c.loop-i.invariant.4 t
+          (c.loop-i.invariant.5 ∙ c.requires.0) c.loop-i.invariant.1
+          (ap (λ (z : ℕ). z - c.loop-i.at) (add_assoc c.loop-i.at n k) ∙ add-sub_cancel_left c.loop-i.at (n + k))
+          (c.join.auto.row ∙ row)
+          (c.join.ensures ∙ joined n k c.loop-i.i c.loop-i.l c.loop-i.r c.args.left.now c.args.right.now t
+          c.loop-i.invariant.2 c.loop-i.invariant.3)),
+      same_len_mid c.loop-i.at (c.loop-i.at + n + k - c.loop-i.at) c.loop-i.cells c.join.new.row c.join.auto.row
+          ∙ c.loop-i.invariant.5,
     )
 
 pub shape_of-cells : goal.shape_of-cells

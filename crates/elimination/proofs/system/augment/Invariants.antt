@@ -1,7 +1,6 @@
 -- `elimination::system::augment` meets its contract. The loop's invariant: the first i rows are joined (`made i`),
 -- and row i of the cells and of the two sides starts at `at`, `l` and `r`.
 use mathlib.Core.Path.{◌≡◌}
-use mathlib.Core.List.{[]}
 use Prim.Native.Nat.{◌+◌, ◌*◌, ◌≤◌, ◌-◌}
 use lib.ListN.{length}
 use Rattle.matrix.specs.Rows.{rows_of}
@@ -16,7 +15,9 @@ invariant-loop-i l =
     × (l.l ≡ l.i * l.n)
     × (l.r ≡ l.i * l.c)
     ×
-    (rows_of (l.n + l.c) l.n l.cells ≡ made (λ j x. row_of (augmented (rows_of l.n l.n l.left) (rows_of l.c l.n l.right)) j) l.i (rows_of (l.n + l.c) l.n l.initial.cells))
+    (rows_of (l.n + l.c) l.n l.cells
+    ≡ made (λ j x. row_of (augmented (rows_of l.n l.n l.left) (rows_of l.c l.n l.right)) j) l.i
+    (rows_of (l.n + l.c) l.n l.initial.cells))
     × (length l.cells ≡ length l.initial.cells)
 
 abbrev pub decreases-loop-i : goal.decreases-loop-i

@@ -11,7 +11,8 @@ use Rattle.elimination.proofs.Parts.{put_rest}
 use Rattle.elimination.proofs.system.join.Goals as goal
 
 put_both : (left right row front back : List Float) → front ≡ left → back ≡ right
-    → put_mid (length left) (length (front ++ drop (length left) row) - length left) (front ++ drop (length left) row) back
+    → put_mid (length left) (length (front ++ drop (length left) row) - length left)
+    (front ++ drop (length left) row) back
     ≡ left ++ right
 put_both left right row front back ef eb =
     put_rest (length left) (front ++ drop (length left) row) back

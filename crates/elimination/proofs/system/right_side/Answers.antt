@@ -2,7 +2,7 @@
 -- right side's (`made i`), and row i of the system and of the output starts at `at` and `s`.
 use mathlib.Core.Path.{◌≡◌, refl, sym, ◌∙◌}
 use mathlib.Core.List.{List, [], map}
-use Prim.Native.Nat.{ℕ, ◌+◌, ◌*◌, ◌≤◌, ◌<◌, ◌-◌}
+use Prim.Native.Nat.{ℕ, ◌+◌, ◌*◌, ◌<◌, ◌-◌}
 use native.Mathlib.Nat.{zero-mul, add-sub_cancel_left}
 use native.Mathlib.Omega.{arith}
 use native.Mathlib.Numerals.{add-one}
@@ -22,8 +22,15 @@ use Rattle.elimination.proofs.system.right_side.Goals as goal
 right_part : (n c i a : ℕ) (cells : List Float) → i < n → a ≡ i * (n + c)
     → take (a + n + c - (a + n)) (drop (a + n) cells) ≡ get_or (map (drop n) (rows_of (n + c) n cells)) i (drop n [])
 right_part n c i a cells h e =
-    rw
-    (add-sub_cancel_left (a + n) c, get_or-map (drop n) (rows_of (n + c) n cells) i [], row_rows_of (n + c) n i cells h, drop_take n c (drop (i * (n + c)) cells), drop-drop n (i * (n + c)) cells, e)
+    rw (
+      add-sub_cancel_left (a + n) c,
+      get_or-map (drop n) (rows_of (n + c) n cells) i [],
+      row_rows_of (n + c) n i
+          cells h,
+      drop_take n c (drop (i * (n + c)) cells),
+      drop-drop n (i * (n + c)) cells,
+      e,
+    )
     refl
 
 pub loop-i-init : goal.loop-i-init
@@ -48,7 +55,8 @@ pub offset_bounds-cells-right : goal.offset_bounds-cells-right
 offset_bounds-cells-right c = omega (arith, row_end (c.args.n + c.args.c) c.args.n c.loop-i.i c.loop-i-test.true)
 
 pub slice_bounds-copy_canonical-end-in-loop-i : goal.slice_bounds-copy_canonical-end-in-loop-i
-slice_bounds-copy_canonical-end-in-loop-i c = omega (arith, row_end (c.args.n + c.args.c) c.args.n c.loop-i.i c.loop-i-test.true)
+slice_bounds-copy_canonical-end-in-loop-i c =
+    omega (arith, row_end (c.args.n + c.args.c) c.args.n c.loop-i.i c.loop-i-test.true)
 
 pub copy_canonical-requires : goal.copy_canonical-requires
 copy_canonical-requires c =
@@ -75,9 +83,13 @@ loop-i-preserved c =
       omega arith,
       omega arith,
       rw add-one
-          (row_turn (λ j x. get_or (map (drop n) (rows_of (n + k) n c.args.cells.now)) j (drop n [])) (rows_of k n c.args.solution.now) c.loop-i.i n k c.loop-i.s (c.loop-i.s + k - c.loop-i.s) c.loop-i.solution c.copy_canonical.new.dst c.loop-i.invariant.3 t (c.loop-i.invariant.4 ∙ c.requires.0) c.loop-i.invariant.2 (add-sub_cancel_left c.loop-i.s k) (c.copy_canonical.auto.dst ∙ to)
+          (row_turn (λ j x. get_or (map (drop n) (rows_of (n + k) n c.args.cells.now)) j (drop n []))
+          (rows_of k n c.args.solution.now) c.loop-i.i n k c.loop-i.s (c.loop-i.s + k - c.loop-i.s)
+          c.loop-i.solution c.copy_canonical.new.dst c.loop-i.invariant.3 t (c.loop-i.invariant.4 ∙ c.requires.0)
+          c.loop-i.invariant.2 (add-sub_cancel_left c.loop-i.s k) (c.copy_canonical.auto.dst ∙ to)
           (c.copy_canonical.ensures ∙ right_part n k c.loop-i.i c.loop-i.at c.args.cells.now t c.loop-i.invariant.1)),
-      same_len_mid c.loop-i.s (c.loop-i.s + k - c.loop-i.s) c.loop-i.solution c.copy_canonical.new.dst c.copy_canonical.auto.dst ∙ c.loop-i.invariant.4,
+      same_len_mid c.loop-i.s (c.loop-i.s + k - c.loop-i.s) c.loop-i.solution c.copy_canonical.new.dst
+          c.copy_canonical.auto.dst ∙ c.loop-i.invariant.4,
     )
 
 pub shape_of-solution : goal.shape_of-solution
@@ -91,5 +103,6 @@ returns c =
     is_flat k n c.loop-i.solution (map (drop n) rows) (c.loop-i.invariant.4 ∙ c.requires.0)
     (c.loop-i.invariant.3
     ∙ made_copy (map (drop n) rows) (drop n []) c.loop-i.i (rows_of k n c.args.solution.now)
-    (length_rows_of k n c.args.solution.now ∙ sym (length-map rows (drop n) ∙ length_rows_of (n + k) n c.args.cells.now))
+    (length_rows_of k n c.args.solution.now
+    ∙ sym (length-map rows (drop n) ∙ length_rows_of (n + k) n c.args.cells.now))
     (rw length_rows_of (omega arith)))

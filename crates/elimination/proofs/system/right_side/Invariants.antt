@@ -14,7 +14,9 @@ invariant-loop-i l =
     × (l.at ≡ l.i * (l.n + l.c))
     × (l.s ≡ l.i * l.c)
     ×
-    (rows_of l.c l.n l.solution ≡ made (λ j x. get_or (map (drop l.n) (rows_of (l.n + l.c) l.n l.cells)) j (drop l.n [])) l.i (rows_of l.c l.n l.initial.solution))
+    (rows_of l.c l.n l.solution
+    ≡ made (λ j x. get_or (map (drop l.n) (rows_of (l.n + l.c) l.n l.cells)) j (drop l.n [])) l.i
+    (rows_of l.c l.n l.initial.solution))
     × (length l.solution ≡ length l.initial.solution)
 
 abbrev pub decreases-loop-i : goal.decreases-loop-i

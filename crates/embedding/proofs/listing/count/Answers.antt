@@ -2,10 +2,10 @@
 -- columns, and `seen` has a digit for each that is not zero.
 use mathlib.Core.Path.{sym, ap, ◌∙◌}
 use mathlib.Core.List.{List, [], map, append-nil}
-use Prim.Native.Nat.{ℕ, ◌-◌, ◌*◌, ◌%◌, ◌^◌, ◌<◌}
+use Prim.Native.Nat.{ℕ, ◌*◌, ◌%◌, ◌^◌, ◌<◌}
 use native.Mathlib.Omega.{arith}
 use lib.Bits.{bit_or}
-use lib.ListN.{length, get_or, take, length-set}
+use lib.ListN.{length, take, length-set}
 use lib.Seq.{take_all}
 use lib.Ieee.{of_bits, of_int}
 use Rattle.mass.specs.Mass.{column_of}

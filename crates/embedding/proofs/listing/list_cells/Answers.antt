@@ -1,6 +1,6 @@
 -- `embedding::listing::list_cells` meets its contract. The loop's invariant: the first k cells are listed.
 use mathlib.Core.Path.{refl}
-use Prim.Native.Nat.{◌<◌, ◌-◌}
+use Prim.Native.Nat.{◌<◌}
 use native.Mathlib.Omega.{arith}
 use lib.ListN.{length}
 use lib.Seq.{take_all}

@@ -1,7 +1,6 @@
 -- `embedding::listing::list_counts` meets its contract. The loop's invariant: the cells from some place on are left,
 -- and `left` has their digits.
 use mathlib.Core.Path.{◌≡◌}
-use Prim.Native.Nat.{◌-◌}
 use lib.ListN.{length}
 use Rattle.embedding.proofs.Seen.{Left}
 use Rattle.embedding.proofs.listing.list_counts.Given as goal

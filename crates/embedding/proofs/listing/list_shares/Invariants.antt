@@ -1,7 +1,6 @@
 -- `embedding::listing::list_shares` meets its contract. The loop's invariant: the shares from some place on are left,
 -- and `left` has their digits.
 use mathlib.Core.Path.{◌≡◌}
-use Prim.Native.Nat.{◌-◌}
 use lib.ListN.{length}
 use Rattle.embedding.specs.Listing.{divided}
 use Rattle.embedding.proofs.Seen.{Left}

@@ -4,7 +4,7 @@ use mathlib.Core.List.{[], ◌∷◌, map, append-nil}
 use Prim.Native.Nat.{ℕ, ◌+◌, ◌<◌, ◌≤◌}
 use native.Mathlib.Omega.{arith}
 use lib.Ieee.{of_bits, of_int}
-use lib.ListN.{length, get_or, take}
+use lib.ListN.{take}
 use Rattle.float.specs.Number.{number}
 use Rattle.embedding.specs.Design.{column_counts}
 use Rattle.embedding.proofs.Rows.{column_within}
@@ -57,7 +57,7 @@ overflow_add-at-2 c =
     let h : c.column-a.result < 22 = column_within _ _ c.column-a.ensures in
     let k : c.column-b.result < 22 = column_within _ _ c.column-b.ensures in
     elim c.if-b-a.branch [
-      then-b-a w ↦ omega (arith, w.low-is, c.requires.part_len_bound.1)
+      | then-b-a w ↦ omega (arith, w.low-is, c.requires.part_len_bound.1)
       | else-b-a w ↦ omega (arith, w.low-is, c.requires.part_len_bound.1)
     ]
 
@@ -66,7 +66,7 @@ overflow_add-at-3 c =
     let h : c.column-a.result < 22 = column_within _ _ c.column-a.ensures in
     let k : c.column-b.result < 22 = column_within _ _ c.column-b.ensures in
     elim c.if-b-a.branch [
-      then-b-a w ↦ omega (arith, w.high-is, c.requires.part_len_bound.1)
+      | then-b-a w ↦ omega (arith, w.high-is, c.requires.part_len_bound.1)
       | else-b-a w ↦ omega (arith, w.high-is, c.requires.part_len_bound.1)
     ]
 
@@ -78,7 +78,7 @@ returns c =
     let joined : Shown a.at (map number (column_counts a.part.now))
     ((a.at + c.if-b-a.low) ∷ (a.at + c.if-b-a.high) ∷ []) (number 1 ∷ number 1 ∷ []) =
     elim c.if-b-a.branch [
-      then-b-a w ↦
+      | then-b-a w ↦
           rw (w.low-is, w.high-is)
           (falling a.part.now a.at c.column-a.result c.column-b.result e
           c.column-a.ensures c.column-b.ensures w.if-b-a.true)

@@ -1,18 +1,16 @@
 -- `embedding::mobility_model::embed` meets its contract: one block after the other.
 use mathlib.Core.Path.{refl, ap, ◌∙◌}
-use mathlib.Core.List.{List, [], map, append-nil}
+use mathlib.Core.List.{[], map, append-nil}
 use native.Mathlib.Omega.{arith}
-use lib.Ieee.{Float}
 use lib.ListN.{length, length-map}
 use borrow.Author.Rules.{rules}
-use borrow.Rule.Slice.PartMut.{same_len_mid}
 use Rattle.embedding.specs.declared.Model.TheVariants.{Mobility}
 use Rattle.embedding.specs.Classes.{class_counts}
 use Rattle.float.specs.Number.{number}
 use Rattle.embedding.specs.Design.{n_terminal, c_terminal, everywhere, counts, block, share, share_of, mobility_scalars, mobility_row}
 use Rattle.embedding.proofs.Classes.{length_class_counts, classes_written}
 use Rattle.embedding.proofs.Positions.{chosen_le}
-use Rattle.embedding.proofs.Rows.{done_none, next_block, length_block, length_counts, returned, copied, made, embedded}
+use Rattle.embedding.proofs.Rows.{done_none, next_block, length_block, length_counts, copied, made, embedded}
 use Rattle.embedding.proofs.mobility_model.embed.Goals as goal
 
 pub embed_part-requires-2 : goal.embed_part-requires-2

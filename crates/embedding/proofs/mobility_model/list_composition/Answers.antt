@@ -1,12 +1,9 @@
 -- `embedding::mobility_model::list_composition` meets its contract: the counts, and behind them their shares.
 use mathlib.Core.Path.{ap, ◌∙◌}
-use mathlib.Core.List.{List}
-use Prim.Native.Nat.{ℕ}
 use native.Mathlib.Omega.{arith}
 use lib.ListN.{length}
 use Rattle.embedding.proofs.Appending.{both_listed, listed_as, length_counted}
 use Rattle.embedding.proofs.Shares.{shares_are, counts_seen}
-use borrow.Author.Rules.{rules}
 use Rattle.embedding.proofs.mobility_model.list_composition.Goals as goal
 
 pub list_counts-n-requires : goal.list_counts-n-requires
@@ -25,7 +22,7 @@ list_shares-requires c =
     let l = ap length e.counts_after ∙ length_counted letters in record {
       seen_value = (
         e.value
-        ∙ counts_seen letters e.counts_after c.u32_to_f64-whole.ensures s.letters_nonzero.0 s.letters_nonzero.1,
+            ∙ counts_seen letters e.counts_after c.u32_to_f64-whole.ensures s.letters_nonzero.0 s.letters_nonzero.1,
         l,
       );
       n_in_bounds = (

@@ -4,7 +4,6 @@ use Rattle.embedding.specs.Design.{mobility_scalars}
 use Rattle.embedding.proofs.Rows.{one, thousand}
 use Rattle.embedding.proofs.Appending.{both_listed, listed_as}
 use Rattle.embedding.proofs.mobility_model.list_scalars.Goals as goal
-use Rattle.float.proofs.u32_to_f64.Reads as u32_to_f64_reads
 
 pub returns : goal.returns
 unfolding mobility_scalars

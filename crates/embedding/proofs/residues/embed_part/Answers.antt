@@ -2,9 +2,9 @@
 -- first i letters' columns, and the others as they were.
 use mathlib.Core.Path.{refl, ap₂, ◌∙◌}
 use mathlib.Core.List.{List, ◌++◌, map}
-use Prim.Native.Nat.{ℕ, ◌-◌, ◌<◌}
+use Prim.Native.Nat.{ℕ, ◌<◌}
 use native.Mathlib.Omega.{arith}
-use lib.ListN.{get_or, length-set}
+use lib.ListN.{length-set}
 use lib.Seq.{take_all}
 use lib.Ieee.{Float, of_bits, of_int}
 use borrow.Author.Rules.{rules}

@@ -1,7 +1,6 @@
 -- `embedding::residues::put_counts` meets its contract. The loop's invariant: the first k cells are the first k counts,
 -- the others as they were.
 use mathlib.Core.Path.{refl, ◌∙◌}
-use Prim.Native.Nat.{◌-◌}
 use native.Mathlib.Omega.{arith}
 use native.Mathlib.Numerals.{add-one}
 use lib.Ieee.{nan}

@@ -1,7 +1,5 @@
 -- `embedding::retention_model::list_rest` meets its contract: one block after the other.
 use mathlib.Core.Path.{ap}
-use mathlib.Core.List.{List}
-use Prim.Native.Nat.{ℕ}
 use native.Mathlib.Omega.{arith}
 use lib.ListN.{length}
 use Rattle.embedding.specs.declared.Model.TheVariants.{Retention}

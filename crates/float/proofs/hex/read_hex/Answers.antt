@@ -1,6 +1,6 @@
 -- `float::hex::read_hex` meets its contract. The loop's invariant: v and the digits that are left give the value of
 -- them all, and those that are left are digits exactly if all are.
-use Rattle.std.proofs.Common.{◌≡◌, ℕ, ◌+◌, ◌-◌, ◌*◌, ◌^◌, ◌<◌, ◌≤◌, Bool, true, false, ◌&&◌, ltb, List, [], length, get_or, drop, sym, refl, ap, ◌∙◌, arith, drop_of_length-le, le-ltb, lt-ltb, le-leb}
+use Rattle.std.proofs.Common.{◌≡◌, ℕ, ◌+◌, ◌*◌, ◌^◌, ◌<◌, ◌≤◌, Bool, true, false, ◌&&◌, ltb, List, [], length, get_or, drop, sym, refl, ap, ◌∙◌, arith, drop_of_length-le, le-ltb, lt-ltb, le-leb}
 use borrow.Author.Tests.{lt-leb}
 use Rattle.float.specs.declared.hex.HexRead.TheVariants.{Value, Malformed}
 use Rattle.float.specs.Hex.{digit_value, all_hex, hex_value, read_hex}

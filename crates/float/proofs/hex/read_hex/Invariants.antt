@@ -1,6 +1,6 @@
 -- `float::hex::read_hex` meets its contract. The loop's invariant: v and the digits that are left give the value of
 -- them all, and those that are left are digits exactly if all are.
-use Rattle.std.proofs.Common.{◌≡◌, ◌+◌, ◌-◌, ◌*◌, ◌^◌, ◌<◌, ◌≤◌, [], length, drop}
+use Rattle.std.proofs.Common.{◌≡◌, ◌+◌, ◌-◌, ◌*◌, ◌^◌, ◌<◌, ◌≤◌, length, drop}
 use Rattle.float.specs.Hex.{all_hex, hex_value}
 use Rattle.float.proofs.hex.read_hex.Given as goal
 

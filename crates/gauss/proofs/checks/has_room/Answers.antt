@@ -8,18 +8,20 @@ use native.Mathlib.Omega.{arith}
 use Rattle.status.specs.Limits.{max_order, max_columns}
 use Rattle.gauss.proofs.checks.has_room.Goals as goal
 
-small : (s : goal.Start)
-    → (s.args.n * s.args.n ≤ max_order * max_order) × (s.args.n * s.args.c ≤ max_order * max_columns)
-small s = (mul-le-mul s.requires.0 s.requires.0, mul-le-mul s.requires.0 s.requires.1)
+small : (n c : ℕ) → n ≤ max_order → c ≤ max_columns
+    → (n * n ≤ max_order * max_order) × (n * c ≤ max_order * max_columns)
+small n c h k = (mul-le-mul h h, mul-le-mul h k)
 
 pub cell_count-outputs-requires : goal.cell_count-outputs-requires
-cell_count-outputs-requires c = (omega arith, omega arith, omega (arith, (small c).1))
+cell_count-outputs-requires c =
+    (omega arith, omega arith, omega (arith, (small c.args.n c.args.c c.requires.0 c.requires.1).1))
 
 pub cell_count-requires : goal.cell_count-requires
-cell_count-requires c = (omega arith, omega arith, omega (arith, (small c.before).0))
+cell_count-requires c =
+    (omega arith, omega arith, omega (arith, (small c.args.n c.args.c c.requires.0 c.requires.1).0))
 
 pub overflow_add-needed : goal.overflow_add-needed
-overflow_add-needed c = omega (arith, small c.before.before)
+overflow_add-needed c = omega (arith, small c.args.n c.args.c c.requires.0 c.requires.1)
 
 pub returns : goal.returns
 returns c =

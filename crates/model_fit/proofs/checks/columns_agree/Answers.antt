@@ -4,7 +4,7 @@ use mathlib.Core.Bool.{true, false, and-true}
 use mathlib.Core.List.{[], ◌∷◌}
 use Prim.Native.Nat.{ℕ}
 use lib.Dec.{eqb}
-use borrow.Author.Tests.{eq-eqb, not-true, not-false}
+use borrow.Author.Tests.{eq-eqb}
 use Rattle.status.specs.Checks.{every, lengths_agree}
 use Rattle.model_fit.specs.Input.{columns_agree}
 use Rattle.model_fit.proofs.checks.columns_agree.Goals as goal
@@ -25,8 +25,8 @@ returns-then-not-same_lengths c =
     let e : lengths_agree a.rows (a.labels ∷ a.qs ∷ a.observed ∷ []) ≡ false =
     sym (three a.rows a.labels a.qs a.observed)
     ∙ sym c.same_lengths.ensures
-    ∙ not-true _ c.if-not-same_lengths.true-raw in
-    rw (c.enum_told-1.given.1, e)
+    ∙ c.if-not-same_lengths.true in
+    rw (c.in-Retention.is, e)
 
 pub returns-else-not-same_lengths : goal.returns-else-not-same_lengths
 unfolding columns_agree
@@ -35,9 +35,9 @@ returns-else-not-same_lengths c =
     let e : lengths_agree a.rows (a.labels ∷ a.qs ∷ a.observed ∷ []) ≡ true =
     sym (three a.rows a.labels a.qs a.observed)
     ∙ sym c.same_lengths.ensures
-    ∙ not-false _ c.if-not-same_lengths.false-raw in
-    rw (c.enum_told-1.given.1, e, one a.peptides a.logs)
+    ∙ c.if-not-same_lengths.false in
+    rw (c.in-Retention.is, e, one a.peptides a.logs)
 
 pub returns-in-Mobility : goal.returns-in-Mobility
 unfolding columns_agree
-returns-in-Mobility c = rw c.enum_told-in-Mobility-1.given.1 c.same_lengths-in-Mobility.ensures
+returns-in-Mobility c = rw c.in-Mobility.is c.same_lengths-in-Mobility.ensures

@@ -8,25 +8,21 @@ use Rattle.regression.specs.Workspace.{workspace_cells}
 use Rattle.model_fit.proofs.Rows.{order_max}
 use Rattle.model_fit.proofs.checks.fit_room.Goals as goal
 
--- the cells of the model's workspace
-module _ (w : goal.After-workspace_cells) where
-  abbrev s : goal.Start
-  s = w.before.before
-
-  cells : w.workspace_cells.result ≡ workspace_cells (order_of s.args.model)
-  cells = w.workspace_cells.ensures ∙ ap workspace_cells w.order-d.ensures
-
 pub workspace_cells-requires : goal.workspace_cells-requires
 workspace_cells-requires c = omega (arith, c.order-d.ensures, order_max c.args.model)
 
 pub returns-then-workspace-workspace_cells : goal.returns-then-workspace-workspace_cells
 returns-then-workspace-workspace_cells c =
-    let w = c.before in
-    let h : (s w).args.workspace < workspace_cells (order_of (s w).args.model) = rw (cells w) at c.if-workspace-workspace_cells.true in
+    let a = c.args in
+    let cells : c.workspace_cells.result ≡ workspace_cells (order_of a.model) =
+    c.workspace_cells.ensures ∙ ap workspace_cells c.order-d.ensures in
+    let h : a.workspace < workspace_cells (order_of a.model) = rw cells at c.if-workspace-workspace_cells.true in
     rw (lt-leb _ _ h)
 
 pub returns : goal.returns
 returns c =
-    let w = c.before in
-    let h : workspace_cells (order_of (s w).args.model) ≤ (s w).args.workspace = rw (cells w) at c.if-workspace-workspace_cells.false in
-    rw (le-leb _ _ h, w.order-d.ensures)
+    let a = c.args in
+    let cells : c.workspace_cells.result ≡ workspace_cells (order_of a.model) =
+    c.workspace_cells.ensures ∙ ap workspace_cells c.order-d.ensures in
+    let h : workspace_cells (order_of a.model) ≤ a.workspace = rw cells at c.if-workspace-workspace_cells.false in
+    rw (le-leb _ _ h, c.order-d.ensures)

@@ -14,4 +14,4 @@ unfolding design
 unread model e letters log charge mass other = rw e
 
 pub returns-in-Retention : goal.returns-in-Retention
-returns-in-Retention c = λ letters log charge. unread c.args.model c.enum_told-1.given.1 letters log charge _ _
+returns-in-Retention c = λ letters log charge. unread c.args.model c.in-Retention.is letters log charge _ _

@@ -2,7 +2,7 @@
 -- the sums are those of the training rows among the first i.
 use mathlib.Core.Path.{◌≡◌}
 use mathlib.Core.List.{[]}
-use Prim.Native.Nat.{◌+◌, ◌-◌, ◌≤◌}
+use Prim.Native.Nat.{◌+◌, ◌≤◌}
 use lib.ListN.{length}
 use Rattle.status.specs.Limits.{max_order}
 use Rattle.embedding.specs.Design.{order_of}
@@ -20,7 +20,3 @@ invariant-loop-i l =
     × (l.sums ≡ sums_of (seen l.model input l.i))
     × (length l.places ≡ max_order + 1)
     × (length l.values ≡ max_order + 1)
-
-abbrev pub decreases-loop-i : goal.decreases-loop-i
-decreases-loop-i l =
-    length l.peptide - l.i

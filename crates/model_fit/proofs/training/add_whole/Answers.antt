@@ -11,38 +11,28 @@ use Rattle.model_fit.proofs.Rows.{order_max}
 use Rattle.model_fit.proofs.training.add_whole.Goals as goal
 
 -- the sample is put into the row, which is long enough
-module _ (o : goal.After-order-d) where
-  abbrev put : goal.After-put_sample
-  put = o.before.before
+pub put_sample-requires-clause-model_in_bounds : goal.put_sample-requires-clause-model_in_bounds
+put_sample-requires-clause-model_in_bounds c = omega (arith, order_max c.args.model)
 
-  abbrev s : goal.Start
-  s = o.before.before.before.before.before.before.before.before
-
-  abbrev d : ℕ
-  d = o.order-d.result
-
-  abbrev row : List Float
-  row = put.put_sample.last.1.1.1.1.1.1.0
-
-  long : length row ≡ max_order + 1
-  long = put.put_sample.kept.1.1.1.1.1.1.0
-
-  row_fits : d + 1 ≤ length row
-  row_fits = omega (arith, o.order-d.ensures, order_max s.args.model, long)
+pub slice_bounds-row-end : goal.slice_bounds-row-end
+slice_bounds-row-end c =
+    omega (arith, c.order-d.ensures, order_max c.args.model, c.put_sample.auto.row)
 
 pub slice_bounds-add_row_sparse-end : goal.slice_bounds-add_row_sparse-end
 slice_bounds-add_row_sparse-end c =
-    let o = c.before.before in
-    sym (length-take-le (d o + 1) (row o) (row_fits o))
+    sym (length-take-le (c.order-d.result + 1) c.put_sample.new.row
+    (omega (arith, c.order-d.ensures, order_max c.args.model, c.put_sample.auto.row)))
 
 pub add_row_sparse-requires : goal.add_row_sparse-requires
 add_row_sparse-requires c =
-    let o = c.before.before.before in record {
-      workspace = (rw o.order-d.ensures (s o).requires.model_in_bounds.1, length-take-le (d o + 1) (row o) (row_fits o));
-      d_in_bounds = rw o.order-d.ensures (s o).requires.model_in_bounds.0;
+    let d : ℕ = c.order-d.result in
+    let row : List Float = c.put_sample.new.row in
+    let fits : d + 1 ≤ length row =
+    omega (arith, c.order-d.ensures, order_max c.args.model, c.put_sample.auto.row) in
+    record {
+      workspace = (rw c.order-d.ensures c.requires.workspace, length-take-le (d + 1) row fits);
+      d_in_bounds = rw c.order-d.ensures c.requires.model_in_bounds;
     }
 
 pub returns : goal.returns
-returns c =
-    let o = c.before.before.before.before in
-    rw (← (put o).put_sample.ensures) (rw o.order-d.ensures at c.add_row_sparse.ensures.workspace_after)
+returns c = rw (← c.put_sample.ensures) (rw c.order-d.ensures at c.add_row_sparse.ensures.workspace_after)

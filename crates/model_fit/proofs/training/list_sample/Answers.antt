@@ -14,69 +14,42 @@ use Rattle.model_fit.proofs.Laws.{nothing_more, one_listed}
 use Rattle.model_fit.proofs.Rows.{wide_design}
 use Rattle.model_fit.proofs.training.list_sample.Goals as goal
 
--- the design row is listed
-module _ (o : goal.After-list-n) where
-  abbrev s : goal.Start
-  s = o.before.before.before.before.before.before.before
-
-  abbrev row : List Float
-  row = let a = s.args in design a.model a.letters.now a.log a.mass a.charge
-
-  abbrev d : ℕ
-  d = o.order-d.result
-
-  abbrev n : ℕ
-  n = o.list-n.result
-
-  abbrev places : List ℕ
-  places = o.list-n.last.1.1.1.1.1.0
-
-  abbrev values : List Float
-  values = o.list-n.last.1.1.1.1.1.1.0
-
-  -- the target's column is the one after the row's
-  column : d ≡ length row
-  column =
-      let a = s.args in
-      o.order-d.ensures
-      ∙ sym (wide_design a.model a.letters.now a.log a.mass a.charge)
-
-  -- there is room for one more
-  room : (n < length places) × (n < length values)
-  room =
-      let k = o.list-n.kept.1.1.1.1.1 in (
-        omega (arith, o.list-n.ensures.upper_bound, s.requires.model_in_bounds.0, k.0),
-        omega (arith, o.list-n.ensures.upper_bound, s.requires.model_in_bounds.1, k.1.0),
-      )
-
-pub returns-then-y : goal.returns-then-y
+pub returns-then-y-clause-nonzeros : goal.returns-then-y-clause-nonzeros
 unfolding of_bits
-returns-then-y c =
-    let o = c.before.before.before.before.before in
-    let a = (s o).args in
-    let m = nothing_more (row o) (take (n o) (places o)) (take (n o) (values o)) a.y o.list-n.ensures.nonzeros
-    (sym (is_zero_lem a.y) ∙ c.if-y.true) in record {
-      upper_bound = omega (arith, o.list-n.ensures.upper_bound);
-      nonzeros = record {
-        places_are = take-set-le (n o) (places o) (n o) (d o) (omega arith) ∙ m.places_are;
-        values_are = take-set-le (n o) (values o) (n o) a.y (omega arith) ∙ m.values_are;
-      };
+returns-then-y-clause-nonzeros c =
+    let a = c.args in
+    let row : List Float = design a.model a.letters.now a.log a.mass a.charge in
+    let n : ℕ = c.list-n.result in
+    let places : List ℕ = c.list-n.new.places in
+    let values : List Float = c.list-n.new.values in
+    let m = nothing_more row (take n places) (take n values) a.y c.list-n.ensures.nonzeros
+    (cc (is_zero_lem a.y)) in record {
+      places_are = take-set-le n places n c.order-d.result (omega arith) ∙ m.places_are;
+      values_are = take-set-le n values n a.y (omega arith) ∙ m.values_are;
     }
 
-pub returns : goal.returns
+-- the target's column is the one after the row's
+pub returns-clause-nonzeros : goal.returns-clause-nonzeros
 unfolding of_bits
-returns c =
-    let o = c.before.before.before.before.before in
-    let a = (s o).args in
-    let f = room o in
-    let m = one_listed (row o) (take (n o) (places o)) (take (n o) (values o)) a.y o.list-n.ensures.nonzeros
-    (sym (is_zero_lem a.y) ∙ c.if-y.false) in record {
-      upper_bound = omega (arith, o.list-n.ensures.upper_bound);
-      nonzeros = record {
-        places_are =
-            rw (add-one (n o)) (take-suc-set (places o) (n o) (d o) (omega (arith, f.0)))
-            ∙ ap (λ (k : ℕ). take (n o) (places o) ++ k ∷ []) (column o)
-            ∙ m.places_are;
-        values_are = rw (add-one (n o)) (take-suc-set (values o) (n o) a.y (omega (arith, f.1))) ∙ m.values_are;
-      };
+returns-clause-nonzeros c =
+    let a = c.args in
+    let row : List Float = design a.model a.letters.now a.log a.mass a.charge in
+    let d : ℕ = c.order-d.result in
+    let n : ℕ = c.list-n.result in
+    let places : List ℕ = c.list-n.new.places in
+    let values : List Float = c.list-n.new.values in
+    let column : d ≡ length row =
+    c.order-d.ensures ∙ sym (wide_design a.model a.letters.now a.log a.mass a.charge) in
+    let few = c.list-n.ensures.upper_bound in
+    let m = one_listed row (take n places) (take n values) a.y c.list-n.ensures.nonzeros
+    (cc (is_zero_lem a.y)) in record {
+      places_are =
+          rw (add-one n)
+          (take-suc-set places n d (omega (arith, few, c.requires.model_in_bounds.0, c.list-n.auto.places)))
+          ∙ ap (λ (k : ℕ). take n places ++ k ∷ []) column
+          ∙ m.places_are;
+      values_are =
+          rw (add-one n)
+          (take-suc-set values n a.y (omega (arith, few, c.requires.model_in_bounds.1, c.list-n.auto.values)))
+          ∙ m.values_are;
     }

@@ -2,4 +2,4 @@
 use Rattle.model_fit.proofs.training.outcome.Goals as goal
 
 pub returns-in-Solved : goal.returns-in-Solved
-returns-in-Solved c = rw (c.r2.ensures, c.solving-1.given.1)
+returns-in-Solved c = rw (c.r2.ensures, c.in-Solved.is)

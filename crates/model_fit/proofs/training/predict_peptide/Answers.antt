@@ -7,7 +7,6 @@ use native.Mathlib.Omega.{arith}
 use lib.Ieee.{Float}
 use lib.ListN.{length, take, drop}
 use lib.Seq.{length-take-le}
-use borrow.Author.Tests.{not-false}
 use Rattle.embedding.specs.Design.{head_of, design}
 use Rattle.matrix.specs.Nonzero.{Nonzeros}
 use Rattle.regression.specs.Sparse.{SplitRow}
@@ -28,74 +27,52 @@ in_parts k h n cells row places values e room fits wide first rest =
       rest = subst (λ (i : ℕ). Nonzeros i (drop i row) places values) (sym size) rest;
     }
 
--- the design row is split
-module _ (o : goal.After-split-n) where
-  abbrev sized : goal.After-head-h
-  sized = o.before.before.before.before
 
-  abbrev s : goal.Start
-  s = sized.before.before.before.before.before.before.before
-
-  abbrev row : List Float
-  row = let a = s.args in design a.model a.letters.now a.log a.mass a.charge
-
-  abbrev h : ℕ
-  h = sized.head-h.result
-
-  abbrev n : ℕ
-  n = o.split-n.result
-
-  abbrev head : List Float
-  head = o.split-n.last.1.1.1.1.1.0
-
-  abbrev places : List ℕ
-  places = o.split-n.last.1.1.1.1.1.1.0
-
-  abbrev values : List Float
-  values = o.split-n.last.1.1.1.1.1.1.1.0
-
-  few : (h ≤ length head) × (n ≤ length places) × (n ≤ length values)
-  few =
-      let k = o.split-n.kept.1.1.1.1.1 in (
-        omega (arith, sized.head-h.ensures, s.requires.letters_len_bound.1, k.0),
-        omega (arith, o.split-n.ensures.upper_bound, s.requires.beta_len.1.0, k.1.0),
-        omega (arith, o.split-n.ensures.upper_bound, s.requires.beta_len.1.1, k.1.1.0),
-      )
-
-  parted : SplitRow (length s.args.beta.now) (take h head) (take n places) (take n values) row
-  parted =
-      let a = s.args in
-      let l = s.requires.beta_len.0.0 in
-      in_parts (head_of a.model) h (length a.beta.now) head row (take n places) (take n values)
-      sized.head-h.ensures few.0 (omega (arith, head_order a.model, l))
-      (wide_design a.model a.letters.now a.log a.mass a.charge ∙ sym l)
-      o.split-n.ensures.head_after.0 o.split-n.ensures.head_after.1
+pub slice_bounds-predict_listed-end : goal.slice_bounds-predict_listed-end
+slice_bounds-predict_listed-end c =
+    omega (arith, c.head-h.ensures, c.requires.letters_len_bound.1, c.split-n.auto.head)
 
 pub slice_bounds-predict_listed-end-2 : goal.slice_bounds-predict_listed-end-2
 slice_bounds-predict_listed-end-2 c =
-    let o = c.before.before.before.before.before.before.before in
-    sym (length-take-le (h o) (head o) (omega (arith, (few o).0)))
+    sym (length-take-le c.head-h.result c.split-n.new.head
+    (omega (arith, c.head-h.ensures, c.requires.letters_len_bound.1, c.split-n.auto.head)))
 
 pub slice_bounds-predict_listed-end-4 : goal.slice_bounds-predict_listed-end-4
 slice_bounds-predict_listed-end-4 c =
-    let o = c.before.before.before.before.before.before.before.before in
-    sym (length-take-le (n o) (places o) (omega (arith, (few o).1)))
+    sym (length-take-le c.split-n.result c.split-n.new.places
+    (omega (arith, c.split-n.ensures.upper_bound, c.requires.model_in_bounds.0, c.split-n.auto.places)))
 
 pub slice_bounds-predict_listed-end-6 : goal.slice_bounds-predict_listed-end-6
 slice_bounds-predict_listed-end-6 c =
-    let o = c.before.before.before.before.before.before.before.before.before in
-    sym (length-take-le (n o) (values o) (omega (arith, (few o).2)))
+    sym (length-take-le c.split-n.result c.split-n.new.values
+    (omega (arith, c.split-n.ensures.upper_bound, c.requires.model_in_bounds.1, c.split-n.auto.values)))
 
 pub predict_listed-requires : goal.predict_listed-requires
 predict_listed-requires c =
-    let o = c.before.before.before.before.before.before.before.before.before in
-    let finite = sym (s o).requires.beta_len.0.1 ∙ not-false _ (sized o).if-not-finite.false-raw in
+    let a = c.args in
+    let l = c.requires.beta_len.0 in
+    let o = c.split-n in
+    let row : List Float = design a.model a.letters.now a.log a.mass a.charge in
+    let parted =
+    in_parts (head_of a.model) c.head-h.result (length a.beta.now) o.new.head row (take o.result o.new.places)
+    (take o.result o.new.values) c.head-h.ensures
+    (omega (arith, c.head-h.ensures, c.requires.letters_len_bound.1, o.auto.head))
+    (omega (arith, head_order a.model, l))
+    (wide_design a.model a.letters.now a.log a.mass a.charge ∙ sym l) o.ensures.head_after o.ensures.nonzeros in
     record {
-      beta_value = finite;
-      split_row = (row o, parted o);
+      beta_value = cc;
+      split_row = (row, parted);
     }
 
 pub returns : goal.returns
 returns c =
-    let o = c.before.before.before.before.before.before.before.before.before.before in
-    c.predict_listed.ensures (row o) (parted o)
+    let a = c.args in
+    let l = c.requires.beta_len.0 in
+    let o = c.split-n in
+    let row : List Float = design a.model a.letters.now a.log a.mass a.charge in
+    c.predict_listed.ensures row
+    (in_parts (head_of a.model) c.head-h.result (length a.beta.now) o.new.head row (take o.result o.new.places)
+    (take o.result o.new.values) c.head-h.ensures
+    (omega (arith, c.head-h.ensures, c.requires.letters_len_bound.1, o.auto.head))
+    (omega (arith, head_order a.model, l))
+    (wide_design a.model a.letters.now a.log a.mass a.charge ∙ sym l) o.ensures.head_after o.ensures.nonzeros)

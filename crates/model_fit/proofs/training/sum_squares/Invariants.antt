@@ -1,7 +1,7 @@
 -- `model_fit::training::sum_squares` meets its contract. The loop's invariant: the sum is that of the training rows
 -- among the first k.
 use mathlib.Core.Path.{◌≡◌}
-use Prim.Native.Nat.{◌-◌, ◌≤◌}
+use Prim.Native.Nat.{◌≤◌}
 use lib.ListN.{length}
 use Rattle.status.specs.Limits.{max_order}
 use Rattle.embedding.specs.Design.{head_of}
@@ -19,7 +19,3 @@ invariant-loop-k l =
     × (length l.head ≡ head_of Retention)
     × (length l.places ≡ max_order)
     × (length l.values ≡ max_order)
-
-abbrev pub decreases-loop-k : goal.decreases-loop-k
-decreases-loop-k l =
-    length l.peptide - l.k

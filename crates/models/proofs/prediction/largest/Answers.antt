@@ -4,7 +4,7 @@ use Rattle.models.proofs.Writing.{two}
 use Rattle.models.proofs.prediction.largest.Goals as goal
 
 pub returns-in-Retention : goal.returns-in-Retention
-returns-in-Retention c = rw c.enum_told-1.given.1 one
+returns-in-Retention c = rw c.in-Retention.is one
 
 pub returns-in-Mobility : goal.returns-in-Mobility
-returns-in-Mobility c = rw c.enum_told-in-Mobility-1.given.1 two
+returns-in-Mobility c = rw c.in-Mobility.is two

@@ -24,74 +24,6 @@ use Rattle.models.proofs.Writing.{bounded_at, prediction_at, inexact_next}
 use borrow.Author.Rules.{rules}
 use Rattle.models.proofs.prediction.write_predictions.Goals as goal
 
--- what the function was passed, and what it is to write and to count
-module _ (at : goal.At-loop-i invariant_loop decreases_loop) where
-  abbrev s : goal.Start invariant_loop decreases_loop
-  s = at.before.before.before.before.before.before.before.before.before.before.before.before.before
-
-  abbrev model : Model
-  model = s.args.model
-
-  abbrev input : Input
-  input =
-      let a = s.args in
-      input_at a.peptide a.label a.q a.charge a.observed a.letters a.offsets a.masses a.logs
-
-  abbrev peptides : List ℕ
-  peptides = input.peptides
-
-  abbrev charges : List ℕ
-  charges = input.charges
-
-  abbrev beta : List Float
-  beta = s.args.beta.now
-
-  abbrev rows : List Query
-  rows = queries peptides charges
-
-  abbrev table : Table
-  table = input.table
-
-  abbrev new : List Float
-  new = map (prediction_of model table beta) rows
-
-  long : length new ≡ length peptides
-  long = length_predictions model table beta peptides charges
-
-  abbrev count : List Query → ℕ
-  count = inexact_in model table beta
-
--- a turn's row is one of the rows
-module _ (t : goal.In-loop-i invariant_loop decreases_loop) where
-  abbrev k : ℕ
-  k = t.loop-i.i
-
-  inside : k < length (peptides t.before)
-  inside = omega (arith, t.loop-i-test.taken)
-
--- the place of the turn at which the row's prediction is known, as the write and the count see it
-module _ (c : goal.After-narrow-bounded invariant_loop decreases_loop) where
-  abbrev predicted : goal.After-predict_row-x invariant_loop decreases_loop
-  predicted = c.before.before.before.before.before
-
-  abbrev turn : goal.In-loop-i invariant_loop decreases_loop
-  turn = predicted.before.before.before.before
-
-  abbrev at : goal.At-loop-i invariant_loop decreases_loop
-  at = turn.before
-
-  bounded_is : c.clamp64-clamped.result
-      ≡ bounded_of (model at) (table at) (beta at) (get_or (rows at) (k turn) (query_of 0 0))
-  bounded_is =
-      bounded_at (model at) (table at) (beta at) (peptides at) (charges at) (k turn) _ _ _ (inside turn)
-      predicted.predict_row-x.ensures at.largest-hi.ensures c.clamp64-clamped.ensures
-
-  count_is : at.loop-i.inexact + bool_byte (not c.narrow-bounded.result.exact) ≡ count at (take (k turn + 1) (rows at))
-  count_is =
-      inexact_next (model at) (table at) (beta at) (rows at) (k turn) (query_of 0 0) _ _ _
-      (omega (arith, length_queries (peptides at) (charges at), inside turn))
-      bounded_is c.narrow-bounded.ensures.exact_value at.loop-i.inv.6
-
 pub loop-i-init : goal.loop-i-init
 unfolding how_many of_bits
 loop-i-init c =
@@ -111,89 +43,92 @@ slice_bounds-predict_row-end-in-loop-i-2 c = sym c.loop-i.invariant.5
 
 pub predict_row-x-requires : goal.predict_row-x-requires
 predict_row-x-requires c =
-    let t = c.before.before.before in
-    let l = t.before in
-    let n = order_max (model l) in (
-      (s l).requires.checked.numbered,
-      (
-        (inside t, omega (arith, head_max (model l), l.loop-i.invariant.3)),
-        (
-          ((s l).requires.peptide_in_bounds.1, l.all_finite-finite.ensures),
-          (omega (arith, n, l.loop-i.invariant.4), omega (arith, n, l.loop-i.invariant.5)),
-        ),
-      ),
-    )
+    let a = c.args in
+    let l = c.loop-i in
+    let n = order_max a.model in
+    record {
+      numbered = c.requires.checked.numbered;
+      i_in_bounds = (omega arith, omega (arith, head_max a.model, l.invariant.3));
+      beta_len = (c.requires.beta_len, c.all_finite-finite.ensures);
+      model_in_bounds = (omega (arith, n, l.invariant.4), omega (arith, n, l.invariant.5));
+    }
 
 pub offset_bounds-predicted-i : goal.offset_bounds-predicted-i
-offset_bounds-predicted-i c = omega (arith, inside (turn c), (s (at c)).pre.0.rows_max)
+offset_bounds-predicted-i c = omega (arith, c.requires.checked.rows_max)
 
 pub bounds-predicted-i : goal.bounds-predicted-i
-bounds-predicted-i c = omega (arith, (at c).loop-i.invariant.2, inside (turn c), (s (at c)).pre.1.0)
+bounds-predicted-i c = omega (arith, c.loop-i.invariant.2, c.requires.peptide_in_bounds)
 
+-- no more are counted than rows were seen
 pub overflow_add-inexact : goal.overflow_add-inexact
 overflow_add-inexact c =
-    let n = c.before in
-    let l = at n in
-    let i = k (turn n) in
-    let counted : count l (take i (rows l)) ≤ i = how_many_first _ (rows l) i in
-    let few : l.loop-i.inexact ≤ i = omega (arith, l.loop-i.inv.6) in
-    let h : i < max_rows = omega (arith, inside (turn n), (s l).pre.0.rows_max) in
+    let a = c.args in
+    let i : Input =
+    input_at a.peptide a.label a.q a.charge a.observed a.letters a.offsets a.masses a.logs in
+    let l = c.loop-i in
+    let rows : List Query = queries i.peptides i.charges in
+    let counted : inexact_in a.model i.table a.beta.now (take l.i rows) ≤ l.i = how_many_first _ rows l.i in
+    let few : l.inexact ≤ l.i = omega (arith, l.invariant.6) in
+    let h : l.i < max_rows = omega (arith, c.requires.checked.rows_max) in
     search (count_fits, few, h)
 
 pub add_square_at-sse-requires : goal.add_square_at-sse-requires
 add_square_at-sse-requires c =
-    let n = c.before in
-    let checked = (s (at n)).pre.0 in
-    let h = inside (turn n) in record {
-      row_in_bounds = (omega (arith, h, checked.labels_long), omega (arith, h, checked.qs_long));
-      row_in_bounds_2 = omega (arith, h, checked.observed_long);
+    let checked = c.requires.checked in
+    record {
+      row_in_bounds = (omega (arith, checked.labels_long), omega (arith, checked.qs_long));
+      row_in_bounds_2 = omega (arith, checked.observed_long);
     }
-
-pub overflow_step-i : goal.overflow_step-i
-overflow_step-i c = let n = c.before.before in omega (arith, inside (turn n), (s (at n)).pre.0.rows_max)
 
 pub loop-i-preserved : goal.loop-i-preserved
 loop-i-preserved c =
-    let n = c.before.before in
-    let t = at n in
-    let l = t.loop-i in
-    let x = (predicted n).predict_row-x in
-    let old : List Float = (s t).args.predicted.now in
-    let e = long t in
-    let h = inside (turn n) in
-    let p : length (peptides t) ≤ length old = (s t).pre.1.0 in
+    let a = c.args in
+    let i : Input =
+    input_at a.peptide a.label a.q a.charge a.observed a.letters a.offsets a.masses a.logs in
+    let l = c.loop-i in
+    let x = c.predict_row-x in
+    let rows : List Query = queries i.peptides i.charges in
+    let beta : List Float = a.beta.now in
+    let old : List Float = a.predicted.now in
+    let new : List Float = map (prediction_of a.model i.table beta) rows in
+    let e = length_predictions a.model i.table beta i.peptides i.charges in
+    let q = length_queries i.peptides i.charges in
+    let h : l.i < length i.peptides = omega arith in
+    let p : length i.peptides ≤ length old = c.requires.peptide_in_bounds in
+    let bounded : c.clamp64-clamped.result ≡ bounded_of a.model i.table beta (get_or rows l.i (query_of 0 0)) =
+    bounded_at a.model i.table beta i.peptides i.charges l.i _ _ _ h
+    x.ensures c.largest-hi.ensures c.clamp64-clamped.ensures in
+    let count =
+    inexact_next a.model i.table beta rows l.i (query_of 0 0) _ _ _ (omega arith)
+    bounded c.narrow-bounded.ensures.exact_value l.invariant.6 in
     let v =
-    prediction_at (model t) (table t) (beta t) (rows t) l.i (query_of 0 0) _ _ (bounded_is n)
-    n.narrow-bounded.ensures.value_value in
-    let kept = x.kept.1.1.1.1.1.1.1.1.1 in (
-      omega (arith, h),
-      write_next (new t) old l.predicted l.i n.narrow-bounded.result.value _
-          (omega arith) (omega arith) l.inv.1 v,
-      simp length-set l.inv.2,
-      kept.0 ∙ l.inv.3,
-      kept.1.0 ∙ l.inv.4,
-      kept.1.1.0 ∙ l.inv.5,
-      count_is n,
+    prediction_at a.model i.table beta rows l.i (query_of 0 0) _ _ bounded c.narrow-bounded.ensures.value_value in (
+      omega arith,
+      write_next new old l.predicted l.i c.narrow-bounded.result.value _ (omega arith) (omega arith) l.invariant.1 v,
+      simp length-set l.invariant.2,
+      x.auto.head ∙ l.invariant.3,
+      x.auto.places ∙ l.invariant.4,
+      x.auto.values ∙ l.invariant.5,
+      count,
       c.add_square_at-sse.ensures
-          ∙ squares_next (model t) (input t) (s t).pre.0 l.i h (beta t) _ x.result _ l.sse
-          refl x.ensures refl l.inv.7,
+          ∙ squares_next a.model i c.requires.checked l.i h beta _ x.result _ l.sse
+          refl x.ensures refl l.invariant.7,
     )
-
-pub shape_of-predicted : goal.shape_of-predicted
-shape_of-predicted c = c.loop-i.invariant.2
 
 pub returns : goal.returns
 returns c =
-    let at = c.before in
-    let l = at.loop-i in
-    let n = long at in
-    let q = length_queries (peptides at) (charges at) in (
-      l.invariant.1
-          ∙ overwrite_all (new at) (s at).args.predicted.now l.i (omega (arith, l.invariant.0, c.loop-i-test.false)),
-      (
-        l.invariant.6 ∙ ap (count at) (take_all l.i (rows at) (omega (arith, l.invariant.0, c.loop-i-test.false))),
-        l.invariant.7
-            ∙ ap (sse_of (beta at))
-            (seen_all (model at) (input at) (s at).requires.checked l.i (omega (arith, c.loop-i-test.false))),
-      ),
-    )
+    let a = c.args in
+    let i : Input =
+    input_at a.peptide a.label a.q a.charge a.observed a.letters a.offsets a.masses a.logs in
+    let l = c.loop-i in
+    let rows : List Query = queries i.peptides i.charges in
+    let beta : List Float = a.beta.now in
+    let new : List Float = map (prediction_of a.model i.table beta) rows in
+    let e = length_predictions a.model i.table beta i.peptides i.charges in
+    let q = length_queries i.peptides i.charges in
+    let h : length i.peptides ≤ l.i = omega arith in
+    record {
+      predicted_after = l.invariant.1 ∙ overwrite_all new a.predicted.now l.i (omega arith);
+      inexact_value = l.invariant.6 ∙ ap (inexact_in a.model i.table beta) (take_all l.i rows (omega arith));
+      sse_value = l.invariant.7 ∙ ap (sse_of beta) (seen_all a.model i c.requires.checked l.i h);
+    }

@@ -3,7 +3,7 @@
 -- training rows among them.
 use mathlib.Core.Path.{◌≡◌}
 use mathlib.Core.List.{◌++◌, map}
-use Prim.Native.Nat.{◌+◌, ◌-◌, ◌≤◌}
+use Prim.Native.Nat.{◌+◌, ◌≤◌}
 use lib.ListN.{length, take, drop}
 use Rattle.status.specs.Limits.{max_order}
 use Rattle.embedding.specs.Design.{head_of}
@@ -26,7 +26,3 @@ invariant-loop-i l =
     × (length l.values ≡ max_order)
     × (l.inexact ≡ inexact_in l.model input.table l.beta (take l.i (queries l.peptide l.charge)))
     × (l.sse ≡ sse_of l.beta (seen l.model input l.i))
-
-abbrev pub decreases-loop-i : goal.decreases-loop-i
-decreases-loop-i l =
-    length l.peptide - l.i

@@ -13,7 +13,8 @@ abbrev pub invariant-loop-m : goal.invariant-loop-m
 invariant-loop-m l =
     (l.m ≤ l.k)
     × (length l.acc ≡ length l.initial.acc)
-    × ((ext : List Float) → ListedRow l.w l.target l.places l.values ext → Walked ext l.initial.acc l.places l.k l.acc l.m)
+    × ((ext : List Float) → ListedRow l.w l.target l.places l.values ext
+    → Walked ext l.initial.acc l.places l.k l.acc l.m)
 
 abbrev pub decreases-loop-m : goal.decreases-loop-m
 decreases-loop-m l = l.k - l.m

@@ -1,20 +1,19 @@
--- `regression::sparse::all_finite` meets its contract. The loop's invariant: all cells are finite where the flag says so
--- and those from k on are.
+-- `regression::sparse::all_finite` meets its contract. The loop's invariant: all cells are finite where the flag
+-- says so and those from k on are.
 use mathlib.Core.Path.{◌≡◌, refl, sym, ap, ◌∙◌}
-use mathlib.Core.Logic.{⊎_elim}
 use mathlib.Core.Bool.{Bool, ◌&&◌, and-true, and-false}
-use Prim.Native.Nat.{◌+◌, ◌-◌}
+use Prim.Native.Nat.{◌+◌}
 use native.Mathlib.Numerals.{add-one}
 use native.Mathlib.Omega.{arith}
 use lib.ListN.{get_or, drop, drop_of_length-le}
 use lib.Ieee.{Float, nan}
-use borrow.Author.Tests.{not-true, not-false}
 use Rattle.float.specs.Value.{is_finite}
 use Rattle.status.specs.Checks.{every}
 use Rattle.status.proofs.Laws.{every_step}
 use Rattle.regression.specs.Sparse.{all_finite}
 use borrow.Author.Rules.{rules}
 use Rattle.regression.proofs.sparse.all_finite.Goals as goal
+use Rattle.regression.proofs.sparse.all_finite.Goals.{then-not-is_finite64, else-not-is_finite64}
 
 pub loop-k-init : goal.loop-k-init
 loop-k-init c = (search rules, refl)
@@ -27,13 +26,14 @@ loop-k-preserved c =
     let x : Float = get_or cells l.k nan in
     let later : Bool = every is_finite (drop (l.k + 1) cells) in
     let step : all_finite cells ≡ l.finite && (is_finite x && later) =
-    l.invariant.1 ∙ ap (λ (b : Bool). l.finite && b) (every_step is_finite l.k cells nan (omega arith) ∙ rw add-one) in (
+    l.invariant.1 ∙ ap (λ (b : Bool). l.finite && b)
+    (every_step is_finite l.k cells nan (omega arith) ∙ rw add-one) in (
       omega arith,
-      ⊎_elim
-          (λ w.
-          rw w.1 (step ∙ rw (sym f.ensures ∙ not-true f.result w.0.taken) (and-false l.finite)))
-          (λ w. rw w.1 (step ∙ rw (sym f.ensures ∙ not-false f.result w.0.left)))
-          c.if-not-is_finite64.branch,
+      elim c.if-not-is_finite64.branch [
+        | then-not-is_finite64 w ↦
+            rw w.finite-is (step ∙ rw (sym f.ensures ∙ w.if-not-is_finite64.true) (and-false l.finite))
+        | else-not-is_finite64 w ↦ rw w.finite-is (step ∙ rw (sym f.ensures ∙ w.if-not-is_finite64.false))
+      ],
     )
 
 pub returns : goal.returns

@@ -1,7 +1,6 @@
--- `regression::sparse::all_finite` meets its contract. The loop's invariant: all cells are finite where the flag says so
--- and those from k on are.
+-- `regression::sparse::all_finite` meets its contract. The loop's invariant: all cells are finite where the flag
+-- says so and those from k on are.
 use mathlib.Core.Path.{◌≡◌}
-use mathlib.Core.Logic.{⊎_elim}
 use mathlib.Core.Bool.{◌&&◌}
 use Prim.Native.Nat.{◌-◌, ◌≤◌}
 use lib.ListN.{length, drop}

@@ -1,10 +1,9 @@
 -- `regression::sparse::gather` meets its contract. The loop's invariant: n of the first j cells are not zero, and their
 -- places are gathered.
 use mathlib.Core.Path.{◌≡◌, refl, sym, ap, ◌∙◌, subst}
-use mathlib.Core.Logic.{⊎_elim}
 use mathlib.Core.Bool.{true, false, cond}
 use mathlib.Core.List.{List, [], ◌∷◌, ◌++◌, append-nil}
-use Prim.Native.Nat.{ℕ, ◌+◌, ◌-◌, ◌≤◌, ◌<◌}
+use Prim.Native.Nat.{ℕ, ◌+◌, ◌≤◌, ◌<◌}
 use native.Mathlib.Numerals.{add-one}
 use native.Mathlib.Omega.{arith}
 use lib.ListN.{length, get_or, set, take, length-append, length-set}
@@ -18,10 +17,12 @@ use Rattle.matrix.proofs.Nonzero.{cells_append}
 use Rattle.packed_rows.proofs.Places.{nonzeros_snoc}
 use borrow.Author.Rules.{rules}
 use Rattle.regression.proofs.sparse.gather.Goals as goal
+use Rattle.regression.proofs.sparse.gather.Goals.{then-ext-j, else-ext-j}
+use Rattle.regression.proofs.sparse.gather.Invariants.{Gathered}
 
 -- one cell more, and whether it is zero
 module _ (ext : List Float) (places₀ : List ℕ) (values₀ : List Float) (places : List ℕ) (values : List Float) (n j : ℕ)
-    (inv : invariant_loop ext places₀ values₀ 0 0 places values n j) (h : j < length ext)
+    (inv : Gathered ext places₀ values₀ places values n j) (h : j < length ext)
     (room : (length ext ≤ length places₀) × (length ext ≤ length values₀)) where
   abbrev x : Float
   x = get_or ext j nan
@@ -44,7 +45,7 @@ module _ (ext : List Float) (places₀ : List ℕ) (values₀ : List Float) (pla
   cells_more = rw (add-one, take-suc ext j nan h) (cells_append (take j ext) (x ∷ []))
 
   abbrev Then : ℕ → Type 0
-  Then k = invariant_loop ext places₀ values₀ 0 0 (set places n j) (set values n x) k (j + 1)
+  Then k = Gathered ext places₀ values₀ (set places n j) (set values n x) k (j + 1)
 
   passed : is_zero x ≡ true → Then n
   passed z =
@@ -92,16 +93,16 @@ loop-j-preserved c =
     let y : Float = get_or ext l.j nan in
     let h : l.j < length ext = omega arith in
     let at = Then ext a.places.now a.values.now l.places l.values l.n l.j l.invariant h c.requires in
-    ⊎_elim
-    (λ w.
-    subst at (sym w.1)
-    (kept ext a.places.now a.values.now l.places l.values l.n l.j l.invariant h c.requires
-    (sym (is_zero_lem y) ∙ not-true _ w.0.taken)))
-    (λ w.
-    subst at (sym w.1)
-    (passed ext a.places.now a.values.now l.places l.values l.n l.j l.invariant h c.requires
-    (sym (is_zero_lem y) ∙ not-false _ w.0.left)))
-    c.if-ext-j.branch
+    elim c.if-ext-j.branch [
+      | then-ext-j w ↦
+          subst at (sym w.n-is)
+          (kept ext a.places.now a.values.now l.places l.values l.n l.j l.invariant h c.requires
+          (sym (is_zero_lem y) ∙ not-true _ w.if-ext-j.true))
+      | else-ext-j w ↦
+          subst at (sym w.n-is)
+          (passed ext a.places.now a.values.now l.places l.values l.n l.j l.invariant h c.requires
+          (sym (is_zero_lem y) ∙ not-false _ w.if-ext-j.false))
+    ]
 
 pub returns : goal.returns
 returns c =

@@ -21,8 +21,12 @@ file_below : (max file : List ℕ) (n i : ℕ) → length max ≡ n → all_belo
 file_below max file n i e all h = omega (arith, below_at n file i all h)
 
 pub loop-i-init : goal.loop-i-init
-loop-i-init c =
-    (search rules, search rules, λ ps e f h. omega (arith, ap (λ (l : List ℕ). get_or l f 0) c.requires.2 ∙ get_d_same (length c.args.max.now) f 0))
+loop-i-init c = (
+  search rules,
+  search rules,
+  λ ps e f h. omega
+      (arith, ap (λ (l : List ℕ). get_or l f 0) c.requires.2 ∙ get_d_same (length c.args.max.now) f 0),
+)
 
 pub bounds-max-k : goal.bounds-max-k
 bounds-max-k c =
@@ -39,12 +43,14 @@ loop-i-preserved c =
     let h : i < length a.file.now = c.loop-i-test.true in
     let below =
     file_below c.loop-i.max a.file.now _ i c.loop-i.invariant.1 c.requires.1 h in
-    let v = c.larger.ensures ∙ ap (Prim.Native.Nat.max (get_or c.loop-i.max (get_or a.file.now i 0) 0)) c.ceil_to_u32.ensures in (
+    let v = c.larger.ensures ∙ ap (Prim.Native.Nat.max (get_or c.loop-i.max (get_or a.file.now i 0) 0))
+    c.ceil_to_u32.ensures in (
       omega arith,
       simp length-set c.loop-i.invariant.1,
       λ ps e f l.
           ap
-          (λ (m : ℕ). Prim.Native.Nat.max (get_or (set c.loop-i.max (get_or a.file.now i 0) m) f 0) (max_rt f (rows_from a.file.now ps a.rt.now (i + 1)))) v
+          (λ (m : ℕ). Prim.Native.Nat.max (get_or (set c.loop-i.max (get_or a.file.now i 0) m) f 0)
+          (max_rt f (rows_from a.file.now ps a.rt.now (i + 1)))) v
           ∙ max_step c.loop-i.max (row_at a.file.now ps a.rt.now i)
           (rows_from a.file.now ps a.rt.now (i + 1)) f below
           ∙ ap (λ (os : List Obs). Prim.Native.Nat.max (get_or c.loop-i.max f 0) (max_rt f os))
@@ -57,4 +63,5 @@ returns c = λ ps e.
     let a = c.args in
     let none = rows_none a.file.now ps a.rt.now c.loop-i.i (omega arith) in
     max_done c.loop-i.max (length a.max.now) (observations a.file.now ps a.rt.now) c.loop-i.invariant.1
-    (λ f l. ap (λ (os : List Obs). Prim.Native.Nat.max (get_or c.loop-i.max f 0) (max_rt f os)) (sym none) ∙ c.loop-i.invariant.2 ps e f l)
+    (λ f l. ap (λ (os : List Obs). Prim.Native.Nat.max (get_or c.loop-i.max f 0) (max_rt f os)) (sym none) ∙
+    c.loop-i.invariant.2 ps e f l)

@@ -13,7 +13,8 @@ invariant-loop-i l =
     (l.i ≤ length l.file)
     × (length l.max ≡ length l.initial.max)
     ×
-    ((ps : List ℕ) → length ps ≡ length l.file → (f : ℕ) → f < length l.initial.max → Prim.Native.Nat.max (get_or l.max f 0) (max_rt f (rows_from l.file ps l.rt l.i)) ≡ max_rt f (observations l.file ps l.rt))
+    ((ps : List ℕ) → length ps ≡ length l.file → (f : ℕ) → f < length l.initial.max → Prim.Native.Nat.max
+    (get_or l.max f 0) (max_rt f (rows_from l.file ps l.rt l.i)) ≡ max_rt f (observations l.file ps l.rt))
 
 abbrev pub decreases-loop-i : goal.decreases-loop-i
 decreases-loop-i l = length l.file - l.i

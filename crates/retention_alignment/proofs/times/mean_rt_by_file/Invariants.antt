@@ -13,7 +13,9 @@ invariant-loop-i l =
     (l.i ≤ length l.file)
     × (length l.cells ≡ l.peptides * l.files)
     ×
-    ((p f : ℕ) → p < l.peptides → f < l.files → carried l.cells l.files (training_from l.file l.peptide l.rt l.label l.q l.i) p f ≡ min_rt p f (training_from l.file l.peptide l.rt l.label l.q 0))
+    ((p f : ℕ) → p < l.peptides → f < l.files → carried l.cells l.files
+    (training_from l.file l.peptide l.rt l.label l.q l.i) p f ≡ min_rt p f
+    (training_from l.file l.peptide l.rt l.label l.q 0))
 
 abbrev pub decreases-loop-i : goal.decreases-loop-i
 decreases-loop-i l = length l.file - l.i

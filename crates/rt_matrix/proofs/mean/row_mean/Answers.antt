@@ -1,8 +1,7 @@
 -- `rt_matrix::mean::row_mean` meets its contract. The loop's invariant: the sum and the count, carried on over the
 -- cells from f on, give the whole row's.
 use mathlib.Core.Path.{refl, sym, ap, ap₂, ◌∙◌}
-use mathlib.Core.List.{[]}
-use Prim.Native.Nat.{◌+◌, ◌-◌}
+use Prim.Native.Nat.{◌+◌}
 use native.Mathlib.Omega.{arith}
 use borrow.Author.Rules.{rules}
 use lib.ListN.{length, get_or}
@@ -21,10 +20,12 @@ loop-f-preserved-then-cell c =
     let a = c.args in
     let inv = c.loop-f.invariant in
     let f = c.loop-f.f in
-    let here = left_present a.max.now a.row.now f (omega arith) (omega arith) (ne_true (get_or a.row.now f nan) c.if-cell.true) in (
+    let here = left_present a.max.now a.row.now f (omega arith) (omega arith)
+    (ne_true (get_or a.row.now f nan) c.if-cell.true) in (
       omega arith,
       omega arith,
-      ap (λ (v : Float). sum_from (add binary64 c.loop-f.sum v) (left a.max.now a.row.now (f + 1))) c.share-sum.ensures ∙ ap (sum_from c.loop-f.sum) (sym here) ∙ inv.2,
+      ap (λ (v : Float). sum_from (add binary64 c.loop-f.sum v) (left a.max.now a.row.now (f + 1)))
+          c.share-sum.ensures ∙ ap (sum_from c.loop-f.sum) (sym here) ∙ inv.2,
       omega (arith, ap length here, inv.3),
     )
 
@@ -33,7 +34,8 @@ loop-f-preserved c =
     let a = c.args in
     let inv = c.loop-f.invariant in
     let f = c.loop-f.f in
-    let here = left_absent a.max.now a.row.now f (omega arith) (omega arith) (ne_false (get_or a.row.now f nan) c.if-cell.false) in (
+    let here = left_absent a.max.now a.row.now f (omega arith) (omega arith)
+    (ne_false (get_or a.row.now f nan) c.if-cell.false) in (
       omega arith,
       omega arith,
       ap (sum_from c.loop-f.sum) (sym here) ∙ inv.2,

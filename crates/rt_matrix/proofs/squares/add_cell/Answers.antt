@@ -12,7 +12,8 @@ unfolding share at_cell
 returns-then-cell c = λ y.
     let a = c.args in
     sym
-    (ap (λ (o : Option Float). at_cell add_square y (spread a.x_mean a.sx2) (share a.max o)) (decode_absent a.cell c.if-cell.true))
+    (ap (λ (o : Option Float). at_cell add_square y (spread a.x_mean a.sx2) (share a.max o))
+    (decode_absent a.cell c.if-cell.true))
 
 pub returns : goal.returns
 unfolding share at_cell add_square
@@ -20,4 +21,5 @@ returns c = λ y.
     let a = c.args in
     ap (λ (x : Float). spread a.x_mean (add binary64 a.sx2 (squared a.x_mean x))) c.share.ensures
     ∙ sym
-    (ap (λ (o : Option Float). at_cell add_square y (spread a.x_mean a.sx2) (share a.max o)) (decode_present a.cell c.if-cell.false))
+    (ap (λ (o : Option Float). at_cell add_square y (spread a.x_mean a.sx2) (share a.max o))
+    (decode_present a.cell c.if-cell.false))

@@ -2,7 +2,6 @@
 -- f`), and the length is as it was.
 use mathlib.Core.Path.{refl, sym, ap₂, ◌∙◌}
 use mathlib.Core.Option.{none}
-use Prim.Native.Nat.{◌-◌}
 use native.Mathlib.Omega.{arith}
 use borrow.Author.Rules.{rules}
 use lib.ListN.{length, length-set}
@@ -31,7 +30,8 @@ loop-f-preserved c =
           spreads_step a.x_mean.now c.loop-f.sx2 (length a.max.now) c.requires.1 inv.1
           (at_cell add_square y) _ shares f (inv.2 y) c.add_cell.result none
           (omega (arith, length_shares a.max.now a.row.now c.requires.0))
-          (c.add_cell.ensures y ∙ ap₂ (at_cell add_square y) old (sym (shares_at a.max.now a.row.now f (omega arith) (omega arith)))),
+          (c.add_cell.ensures y ∙ ap₂ (at_cell add_square y) old
+          (sym (shares_at a.max.now a.row.now f (omega arith) (omega arith)))),
     )
 
 pub returns : goal.returns

@@ -1,7 +1,7 @@
 -- `rt_matrix::squares::x_means` meets its contract. The loop's invariant: the first f means are done (`up_to f`), and
 -- the length is as it was.
 use mathlib.Core.Path.{◌≡◌, refl, sym, ap, ◌∙◌}
-use Prim.Native.Nat.{ℕ, ◌-◌}
+use Prim.Native.Nat.{ℕ}
 use native.Mathlib.Nat.{le_of_eq}
 use native.Mathlib.Omega.{arith}
 use borrow.Author.Rules.{rules}

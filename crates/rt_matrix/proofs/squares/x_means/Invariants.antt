@@ -10,7 +10,8 @@ use Rattle.rt_matrix.proofs.squares.x_means.Given as goal
 
 abbrev pub invariant-loop-f : goal.invariant-loop-f
 invariant-loop-f l =
-    (l.f ≤ length l.len) × (length l.x_mean ≡ length l.len) × (l.x_mean ≡ up_to over l.f l.initial.x_mean (x_means l.len l.sum_x))
+    (l.f ≤ length l.len) × (length l.x_mean ≡ length l.len) ×
+    (l.x_mean ≡ up_to over l.f l.initial.x_mean (x_means l.len l.sum_x))
 
 abbrev pub decreases-loop-f : goal.decreases-loop-f
 decreases-loop-f l = length l.len - l.f

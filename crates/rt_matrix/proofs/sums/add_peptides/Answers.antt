@@ -14,24 +14,33 @@ use Rattle.rt_matrix.specs.declared.sums.Sums.{Sums}
 use Rattle.rt_matrix.proofs.Peptides.{At, next_row, rows_left, rows_done}
 use Rattle.rt_matrix.proofs.SumColumns.{one_more}
 use Rattle.rt_matrix.proofs.sums.add_peptides.Goals as goal
+use Rattle.rt_matrix.proofs.sums.add_peptides.Goals.{In-loop-left}
 
 pub loop-left-init : goal.loop-left-init
 loop-left-init c = ((le_refl _, rw (sub_self, zero-mul)), search rules, search rules, refl)
 
+-- the row of the first peptide that is left, and where the next one starts
+here : (c : In-loop-left)
+    → (c.loop-left.at + length c.args.max.now ≤ length c.args.cells.now)
+    × At (length c.args.max.now) c.args.peptides (c.loop-left.at + length c.args.max.now) (c.loop-left.left - 1)
+here c =
+    next_row c.args.max.now c.args.cells.now c.args.peptides c.loop-left.at c.loop-left.left c.requires.0
+    c.loop-left-test.true c.loop-left.invariant.0
+
 pub overflow_add-end : goal.overflow_add-end
-overflow_add-end c = omega (arith, (next_row c.args.max.now c.args.cells.now c.args.peptides c.loop-left.at c.loop-left.left c.requires.0 c.loop-left-test.true c.loop-left.invariant.0).0)
+overflow_add-end c = omega (arith, (here (goal.at.overflow_add-end c).In-loop-left).0)
 
 pub offset_bounds-cells-at : goal.offset_bounds-cells-at
-offset_bounds-cells-at c = omega (arith, (next_row c.args.max.now c.args.cells.now c.args.peptides c.loop-left.at c.loop-left.left c.requires.0 c.loop-left-test.true c.loop-left.invariant.0).0)
+offset_bounds-cells-at c = omega (arith, (here (goal.at.offset_bounds-cells-at c).In-loop-left).0)
 
 pub slice_bounds-add_peptide-end : goal.slice_bounds-add_peptide-end
-slice_bounds-add_peptide-end c = (next_row c.args.max.now c.args.cells.now c.args.peptides c.loop-left.at c.loop-left.left c.requires.0 c.loop-left-test.true c.loop-left.invariant.0).0
+slice_bounds-add_peptide-end c = (here (goal.at.slice_bounds-add_peptide-end c).In-loop-left).0
 
 pub add_peptide-requires : goal.add_peptide-requires
 add_peptide-requires c =
     let ms = c.args.max.now in
     let cells = c.args.cells.now in
-    let row = (next_row c.args.max.now c.args.cells.now c.args.peptides c.loop-left.at c.loop-left.left c.requires.0 c.loop-left-test.true c.loop-left.invariant.0).0 in (
+    let row = (here (goal.at.add_peptide-requires c).In-loop-left).0 in (
       length-take-le _ _ (simp length-drop (omega arith)) ∙ add-sub_cancel_left c.loop-left.at (length ms),
       c.loop-left.invariant.1,
       λ k. omega (arith, c.loop-left.invariant.2 k),
@@ -47,18 +56,21 @@ loop-left-preserved c =
     let e =
     c.add_peptide.ensures
     ∙ ap
-    (λ (n : ℕ). after_row add_point (sums_of c.loop-left.len c.loop-left.dot c.loop-left.sum_x c.loop-left.sum_y) (shares_of ms (take n (drop c.loop-left.at cells))))
+    (λ (n : ℕ). after_row add_point (sums_of c.loop-left.len c.loop-left.dot c.loop-left.sum_x c.loop-left.sum_y)
+    (shares_of ms (take n (drop c.loop-left.at cells))))
     (add-sub_cancel_left c.loop-left.at (length ms)) in
-    let z : Sized (length ms) c.add_peptide.new.len c.add_peptide.new.dot c.add_peptide.new.sum_x c.add_peptide.new.sum_y =
-        record { len = omega arith; dot = omega arith; sum_x = omega arith; sum_y = omega arith } in
+    let z : Sized (length ms) c.add_peptide.new.len c.add_peptide.new.dot c.add_peptide.new.sum_x
+    c.add_peptide.new.sum_y =
+    record { len = omega arith; dot = omega arith; sum_x = omega arith; sum_y = omega arith } in
     let counted =
     one_more (length ms) c.loop-left.len c.loop-left.dot c.loop-left.sum_x c.loop-left.sum_y inv.1 _ _ _ _ z
     (shares_of ms row) e in (
-      (next_row c.args.max.now c.args.cells.now c.args.peptides c.loop-left.at c.loop-left.left c.requires.0 c.loop-left-test.true c.loop-left.invariant.0).1,
+      (here (goal.at.loop-left-preserved c).In-loop-left).1,
       z,
       λ k. omega (arith, inv.2 k, counted k),
       ap
-          (λ (l : List Sums). foldl (after_row add_point) l (row_shares ms (c.loop-left.left - 1) (drop (c.loop-left.at + length ms) cells))) e
+          (λ (l : List Sums). foldl (after_row add_point) l
+          (row_shares ms (c.loop-left.left - 1) (drop (c.loop-left.at + length ms) cells))) e
           ∙ ap
           (foldl (after_row add_point) (sums_of c.loop-left.len c.loop-left.dot c.loop-left.sum_x c.loop-left.sum_y))
           (sym (rows_left ms cells c.loop-left.at c.loop-left.left c.loop-left-test.true))
@@ -68,5 +80,6 @@ loop-left-preserved c =
 pub returns : goal.returns
 returns c =
     sym
-    (ap (foldl (after_row add_point) (sums_of c.loop-left.len c.loop-left.dot c.loop-left.sum_x c.loop-left.sum_y)) (rows_done c.args.max.now c.args.cells.now c.loop-left.at c.loop-left.left (omega arith)))
+    (ap (foldl (after_row add_point) (sums_of c.loop-left.len c.loop-left.dot c.loop-left.sum_x c.loop-left.sum_y))
+    (rows_done c.args.max.now c.args.cells.now c.loop-left.at c.loop-left.left (omega arith)))
     ∙ c.loop-left.invariant.3

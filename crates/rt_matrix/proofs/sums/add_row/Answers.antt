@@ -2,7 +2,6 @@
 -- and the lengths are as they were.
 use mathlib.Core.Path.{refl, sym, ap, ap₂, ◌∙◌}
 use mathlib.Core.Option.{none}
-use Prim.Native.Nat.{◌-◌}
 use native.Mathlib.Omega.{arith}
 use borrow.Author.Rules.{rules}
 use lib.ListN.{length, length-set}
@@ -22,8 +21,12 @@ add_cell-s-requires c =
     let old =
     sums_old c.loop-f.len c.loop-f.dot c.loop-f.sum_x c.loop-f.sum_y (length c.args.max.now)
     c.loop-f.invariant.1 _ _ _ c.loop-f.f c.loop-f.invariant.2 (omega arith) in
-    omega
-    (arith, c.requires.2 c.loop-f.f, ap (λ (t : Sums). t.len) (old ∙ sums_at_lem _ _ _ _ _ c.requires.1 c.loop-f.f (omega arith)))
+    omega (
+      arith,
+      c.requires.2 c.loop-f.f,
+      ap (λ (t : Sums). t.len)
+          (old ∙ sums_at_lem _ _ _ _ _ c.requires.1 c.loop-f.f (omega arith)),
+    )
 
 pub loop-f-preserved : goal.loop-f-preserved
 loop-f-preserved c =
@@ -33,11 +36,19 @@ loop-f-preserved c =
     let step =
     sums_step c.loop-f.len c.loop-f.dot c.loop-f.sum_x c.loop-f.sum_y (length a.max.now) inv.1
     (at_cell add_point a.y) _ (shares_of a.max.now a.row.now) f inv.2 in
-    let old = sums_old c.loop-f.len c.loop-f.dot c.loop-f.sum_x c.loop-f.sum_y (length a.max.now) inv.1 (at_cell add_point a.y) _ (shares_of a.max.now a.row.now) f inv.2 (omega arith) in (
+    let old = sums_old c.loop-f.len c.loop-f.dot c.loop-f.sum_x c.loop-f.sum_y (length a.max.now) inv.1
+    (at_cell add_point a.y) _ (shares_of a.max.now a.row.now) f inv.2 (omega arith) in (
       omega arith,
-      record { len = simp length-set inv.1.len; dot = simp length-set inv.1.dot; sum_x = simp length-set inv.1.sum_x; sum_y = simp length-set inv.1.sum_y },
+      record {
+        len = simp length-set inv.1.len;
+        dot = simp length-set inv.1.dot;
+        sum_x = simp length-set
+            inv.1.sum_x;
+        sum_y = simp length-set inv.1.sum_y;
+      },
       step c.add_cell-s.result none (omega (arith, length_shares a.max.now a.row.now c.requires.0))
-          (c.add_cell-s.ensures ∙ ap₂ (at_cell add_point a.y) old (sym (shares_at a.max.now a.row.now f (omega arith) (omega arith)))),
+          (c.add_cell-s.ensures ∙ ap₂ (at_cell add_point a.y) old
+          (sym (shares_at a.max.now a.row.now f (omega arith) (omega arith)))),
     )
 
 pub returns : goal.returns

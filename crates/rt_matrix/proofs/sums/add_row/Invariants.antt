@@ -9,7 +9,9 @@ use Rattle.rt_matrix.proofs.sums.add_row.Given as goal
 
 abbrev pub invariant-loop-f : goal.invariant-loop-f
 invariant-loop-f l =
-    (l.f ≤ length l.max) × Sized (length l.max) l.len l.dot l.sum_x l.sum_y × (sums_of l.len l.dot l.sum_x l.sum_y ≡ up_to (at_cell add_point l.y) l.f (sums_of l.initial.len l.initial.dot l.initial.sum_x l.initial.sum_y) (shares_of l.max l.row))
+    (l.f ≤ length l.max) × Sized (length l.max) l.len l.dot l.sum_x l.sum_y ×
+    (sums_of l.len l.dot l.sum_x l.sum_y ≡ up_to (at_cell add_point l.y) l.f
+    (sums_of l.initial.len l.initial.dot l.initial.sum_x l.initial.sum_y) (shares_of l.max l.row))
 
 abbrev pub decreases-loop-f : goal.decreases-loop-f
 decreases-loop-f l = length l.max - l.f
