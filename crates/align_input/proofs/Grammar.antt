@@ -12,11 +12,9 @@ use lib.IntN.{ℤ}
 use lib.Signed.{mag}
 use lib.Dec.{leb}
 use borrow.Author.Tests.{le-leb, leb-true}
-use Rattle.float.specs.Hex.{hex_of}
-use Rattle.text.specs.Ascii.{ascii}
-use Rattle.text.specs.Decimal.{decimal_of, decimal_z}
-use Rattle.text.specs.Reader.{Read, value, malformed, Reader, give, ◌>>=◌}
-use Rattle.text.specs.Line.{line, line_of, decimal_line, signed_line, hex_line}
+use Rattle.text.specs.Decimal.{decimal_of}
+use Rattle.text.specs.Reader.{Read, value, malformed, give}
+use Rattle.text.specs.Line.{line, line_of}
 use Rattle.text.proofs.Cases.{by_bool, some_none}
 use Rattle.text.proofs.Lines.{Reads, Continues, then_continues, give_continues}
 use Rattle.text.proofs.Numbers.{decimal_line_reads, signed_line_reads, hex_line_reads}

@@ -1,13 +1,13 @@
 -- The rows from a place of a text on, and the columns that they are stored in, a row at a time.
-use mathlib.Core.Path.{◌≡◌, refl, sym, ap, ◌∙◌, subst}
-use mathlib.Core.List.{List, [], ◌∷◌, map}
+use mathlib.Core.Path.{◌≡◌, refl, sym, ap, ◌∙◌}
+use mathlib.Core.List.{List, [], ◌∷◌}
 use mathlib.Core.Option.{Option, none, some}
 use Prim.Native.Nat.{ℕ, zero, suc, ◌+◌, ◌≤◌, ◌<◌}
 use native.Mathlib.Numerals.{add-one}
 use native.Mathlib.Nat.{le_refl, zero-add}
 use native.Mathlib.Omega.{arith}
-use lib.ListN.{length, drop, set, length-drop, drop_of_length-le}
-use lib.Seq.{sets, drop-drop}
+use lib.ListN.{length, drop, length-drop, drop_of_length-le}
+use lib.Seq.{drop-drop}
 use lib.IntN.{ℤ}
 use lib.Ieee.{Float}
 use borrow.Author.Tests.{le-leb, lt-leb}
@@ -16,7 +16,7 @@ use Rattle.align_input.specs.declared.TextRow.{TextRow}
 use Rattle.align_input.specs.declared.RowRead.TheVariants.{Row, Malformed}
 use Rattle.align_input.specs.declared.RowsRead.TheVariants as RS
 use Rattle.align_input.specs.declared.HeadRead.TheVariants as H
-use Rattle.align_input.specs.Input.{Input, max_bytes}
+use Rattle.align_input.specs.Input.{max_bytes}
 use Rattle.align_input.specs.Parse.{
   row_read,
   on_row,
@@ -30,7 +30,7 @@ use Rattle.align_input.specs.Parse.{
   parse,
 }
 use Rattle.align_input.specs.Columns.{row_at, head_at, count_from, Columns, columns, stored_row, stored}
-use Rattle.align_input.proofs.Grammar.{row_reads, row_some, rows_empty, rows_step, rows_row}
+use Rattle.align_input.proofs.Grammar.{row_reads, row_some, rows_empty, rows_step}
 
 row_takes : (r : TextRow) (n : ℕ) (s : List ℕ) → row_read s ≡ value r n → 1 ≤ n
 row_takes r n s h = omega (arith, (row_reads.sound r n s h).1, row_some r)

@@ -1,5 +1,5 @@
 -- The answers of the functions that read, and the columns that rows are stored in. Definitions only.
-use Rattle.std.specs.Prelude.{ℕ, ◌+◌, ◌≡◌, List, map, length, set, ℤ, Float}
+use Rattle.std.specs.Prelude.{ℕ, ◌+◌, List, map, length, set, ℤ, Float}
 use Rattle.std.proofs.Math.Option.{Option, none, some}
 use Rattle.params.specs.Slice.{Change, change, MutSlice}
 use Rattle.std.proofs.lemmas.List.Edits.{sets}

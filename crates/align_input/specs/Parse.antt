@@ -1,6 +1,6 @@
 -- Reading a text of the align program. That it takes exactly the texts of the grammar, each as its input, is proved
 -- (`proofs/Grammar.antt`). Definitions only.
-use Rattle.std.specs.Prelude.{ℕ, zero, suc, ◌+◌, Bool, cond, List, [], ◌∷◌, leb, length, drop}
+use Rattle.std.specs.Prelude.{ℕ, zero, suc, cond, List, [], ◌∷◌, leb, length, drop}
 use Rattle.std.proofs.Math.Option.{Option, none, some}
 use Rattle.text.specs.Reader.{Read, value, malformed, Reader, give, ◌>>=◌}
 use Rattle.text.specs.Line.{decimal_line, signed_line, hex_line}

@@ -5,7 +5,7 @@ use mathlib.Core.List.{List, [], ◌∷◌}
 use Prim.Native.Nat.{ℕ}
 use lib.Ieee.{Float}
 use Rattle.status.specs.Status.{bad_file, first_failing}
-use Rattle.status.specs.Told.{Told, gives, told_for}
+use Rattle.status.specs.Told.{gives, told_for}
 use Rattle.rt_matrix.specs.declared.Alignment.{Alignment}
 use Rattle.retention_alignment.specs.Alignments.{aligned_by}
 use Rattle.records.specs.Record.{

@@ -1,15 +1,14 @@
 -- No f32 equals the mark of an absent time, so a cell after one time more holds what the definition says.
-use mathlib.Core.Path.{◌≡◌, refl, sym, ap, ◌∙◌}
-use Prim.Native.Nat.{ℕ, zero, suc, ◌+◌, ◌*◌, ◌%◌, ◌^◌, ◌≤◌, ◌<◌}
-use native.Mathlib.Nat.{mul-le-mul_right, mul-pos}
+use mathlib.Core.Path.{◌≡◌, refl, ap}
+use Prim.Native.Nat.{ℕ, zero, suc, ◌*◌, ◌%◌, ◌^◌, ◌≤◌, ◌<◌}
+use native.Mathlib.Nat.{mul-le-mul_right}
 use native.Mathlib.Omega.{arith}
 use mathlib.Core.Bool.{Bool, true, false, ◌&&◌, ◌||◌, cond, beq}
 use mathlib.Core.Option.{none, some}
-use lib.IntN.{ℤ, pos}
-use lib.Dec.{T, leb, ltb, eqb, lit≤, ltb→lt, eqb→eq}
-use lib.Ieee.{Float, nan, inf, fin, binary32, binary64, up, down, eq, lt, is_nan, fits, of_bits}
+use lib.Dec.{T, leb, ltb, eqb, lit≤, ltb→lt}
+use lib.Ieee.{Float, nan, inf, fin, binary32, up, down, eq, lt, is_nan, fits, of_bits}
 use lib.Ieee.Fits.{and_r, down_pos}
-use borrow.Author.Tests.{eqb-true, ne_eqb}
+use borrow.Author.Tests.{ne_eqb}
 use Rattle.float.specs.Value.{minimum}
 use Rattle.rt_matrix.specs.Cells.{absent, decode}
 use Rattle.rt_matrix.proofs.Row.{decode_present}

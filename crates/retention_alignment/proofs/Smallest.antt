@@ -2,8 +2,8 @@
 use mathlib.Core.Path.{◌≡◌, refl, sym, ap, ap₂, ◌∙◌}
 use mathlib.Core.Bool.{Bool, true, false, ◌&&◌, cond}
 use mathlib.Core.List.{List, [], ◌∷◌, map, foldl}
-use mathlib.Core.Option.{Option, none, some}
-use Prim.Native.Nat.{ℕ, ◌*◌, ◌≤◌, ◌<◌}
+use mathlib.Core.Option.{Option, none}
+use Prim.Native.Nat.{ℕ, ◌*◌, ◌<◌}
 use native.Mathlib.Omega.{arith}
 use lib.Dec.{eqb}
 use lib.ListN.{length, get_or, set, length-map, get_or-map}
@@ -11,7 +11,7 @@ use lib.Seq.{get_or-set_same, get_or-set_other, ext_get_or}
 use lib.Ieee.{Float, nan}
 use borrow.Author.Tests.{eqb-true, eqb-false}
 use Rattle.matrix.specs.Rows.{place_of, row_at, rows_of}
-use Rattle.matrix.proofs.Laws.{place_below, place_inj, length_rows_of, row_rows_of, length_row_at, get_d_row_at}
+use Rattle.matrix.proofs.Laws.{place_inj, length_rows_of, row_rows_of, length_row_at, get_d_row_at}
 use Rattle.matrix.specs.Lists.{tabulate}
 use Rattle.rt_matrix.specs.Cells.{decode}
 use Rattle.matrix.proofs.Lists.{length_tabulate, get_d_tabulate}

@@ -6,7 +6,7 @@ use Rattle.matrix.specs.Lists.{overwritten}
 use Rattle.feature.specs.Feature.{mask, kept}
 use Rattle.status.specs.Checks.{all_below, lengths_agree}
 use Rattle.status.specs.Limits.{within_limits, max_files, max_peptides, max_cells}
-use Rattle.status.specs.Status.{accepted, bad_lengths, past_limit, too_short, bad_file, bad_peptide, first_failing}
+use Rattle.status.specs.Status.{bad_lengths, past_limit, too_short, bad_file, bad_peptide, first_failing}
 use Rattle.status.specs.Told.{Told, gives, only, if_accepted, told_for}
 use Rattle.rt_matrix.specs.Columns.{FileColumns, EachOf, columns_of, records_of, written_over, file_room, each_long}
 use Rattle.rt_matrix.specs.declared.Alignment.{Alignment}

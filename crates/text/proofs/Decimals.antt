@@ -1,29 +1,17 @@
 -- Decimal digits both ways.
 use mathlib.Core.Path.{◌≡◌, refl, sym, ap, ◌∙◌, subst}
-use mathlib.Core.Bool.{Bool, true, false, ◌&&◌, cond}
-use mathlib.Core.List.{List, [], ◌∷◌, ◌++◌}
-use mathlib.Core.Option.{Option, none, some}
+use mathlib.Core.Bool.{true}
+use mathlib.Core.List.{List, [], ◌∷◌}
+use mathlib.Core.Option.{none, some}
 use Prim.Native.Nat.{ℕ, zero, suc, ◌+◌, ◌-◌, ◌*◌, ◌/◌, ◌%◌, ◌^◌, ◌≤◌, ◌<◌}
 use native.Mathlib.Omega.{arith}
 use native.Mathlib.Numerals.{add-one}
-use lib.Dec.{leb, ltb, eqb}
+use lib.Dec.{leb, eqb}
 use lib.ListN.{length, get_or}
-use borrow.Author.Tests.{
-  ltb-true,
-  ltb-false,
-  leb-true,
-  leb-false,
-  lt-ltb,
-  le-ltb,
-  le-leb,
-  lt-leb,
-  eqb-false,
-  eq-eqb,
-  ne_eqb,
-}
-use Rattle.text.specs.Decimal.{decimal_onto, decimal_of, decimal_z, is_digit, read_from, read_decimal}
+use borrow.Author.Tests.{leb-true, lt-ltb, le-ltb, le-leb, lt-leb, eqb-false, eq-eqb, ne_eqb}
+use Rattle.text.specs.Decimal.{decimal_onto, decimal_of, is_digit, read_from, read_decimal}
 use Rattle.float.proofs.Order.{and_true}
-use Rattle.text.proofs.Cases.{by_bool, by_lt, by_eq, some_none, and_false}
+use Rattle.text.proofs.Cases.{by_bool, by_lt, some_none, and_false}
 
 -- ---- a number's digits
 pub onto_short : (k n : ℕ) (s : List ℕ) → n < 10 → decimal_onto k n s ≡ (48 + n) ∷ s

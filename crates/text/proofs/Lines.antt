@@ -1,19 +1,19 @@
 -- Lines and readers both ways.
 use mathlib.Core.Path.{◌≡◌, refl, sym, ap, ◌∙◌, subst}
-use mathlib.Core.Bool.{Bool, true, false, ◌&&◌, cond}
+use mathlib.Core.Bool.{true, false}
 use mathlib.Core.List.{List, [], ◌∷◌, ◌++◌, append_assoc}
 use mathlib.Core.Option.{Option, none, some}
-use Prim.Native.Nat.{ℕ, zero, suc, ◌+◌, ◌-◌, ◌≤◌, ◌<◌}
+use Prim.Native.Nat.{ℕ, suc, ◌+◌}
 use native.Mathlib.Omega.{arith}
 use native.Mathlib.Numerals.{add-one}
 use lib.Dec.{eqb}
 use lib.ListN.{length, drop, length-append}
 use lib.Seq.{drop-append_seam, append_snoc, drop-drop}
-use borrow.Author.Tests.{eqb-true, eqb-false, eq-eqb, ne_eqb}
+use borrow.Author.Tests.{eqb-true, eq-eqb}
 use Rattle.text.specs.Reader.{Read, value, malformed, Reader, further, onward, ◌>>=◌, give}
-use Rattle.text.specs.Line.{line, longer_by, line_of, starts_with, keyed, line_read, in_line, first_line}
+use Rattle.text.specs.Line.{longer_by, line_of, starts_with, keyed, first_line}
 use Rattle.float.proofs.Order.{and_true}
-use Rattle.text.proofs.Cases.{by_bool, by_lt, by_eq, by_option, some_none, and_false}
+use Rattle.text.proofs.Cases.{by_bool, by_option, some_none}
 
 -- ---- the first line
 longer_none : (c : ℕ) (o : Option (List ℕ)) → longer_by c o ≡ none → o ≡ none

@@ -1,7 +1,7 @@
 -- The lines with numbers, both ways.
 use mathlib.Core.Path.{◌≡◌, refl, sym, ap, ◌∙◌, subst}
-use mathlib.Core.Bool.{Bool, true, false, ◌&&◌, cond}
-use mathlib.Core.List.{List, [], ◌∷◌, ◌++◌}
+use mathlib.Core.Bool.{false}
+use mathlib.Core.List.{List, [], ◌∷◌}
 use mathlib.Core.Option.{Option, none, some}
 use Prim.Native.Nat.{ℕ, zero, suc, ◌+◌, ◌-◌, ◌/◌, ◌%◌, ◌^◌, ◌≤◌, ◌<◌}
 use native.Mathlib.Nat.{mod-eq_of_lt}
@@ -10,14 +10,14 @@ use lib.Dec.{eqb}
 use lib.ListN.{length, get_or, drop}
 use lib.IntN.{ℤ, pos, negsuc}
 use lib.Signed.{mag}
-use borrow.Author.Tests.{eqb-true, eqb-false, eq-eqb, ne_eqb}
+use borrow.Author.Tests.{eqb-true, eq-eqb, ne_eqb}
 use Rattle.float.specs.Hex.{hex_digit, hex_of, read_hex}
 use Rattle.float.specs.declared.hex.HexRead.{HexRead}
 use Rattle.float.specs.declared.hex.HexRead.TheVariants.{Value, Malformed}
 use Rattle.float.proofs.Digits.{length_hex_of, read_hex_hex_of, read_hex_reads}
 use Rattle.text.specs.Decimal.{decimal_onto, decimal_of, decimal_z, read_decimal, read_signed, negative, non_negative}
 use Rattle.text.specs.Line.{line, line_of, hex_number, read_hex_digits, decimal_line, signed_line, hex_line}
-use Rattle.text.proofs.Cases.{by_bool, by_lt, by_option, some_none}
+use Rattle.text.proofs.Cases.{by_bool, by_lt, some_none}
 use Rattle.text.proofs.Decimals.{onto_short, onto_more, decimal_first, decimal_complete, decimal_sound}
 use Rattle.text.proofs.Lines.{Spells, Reads, keyed_spells, first_reads}
 

@@ -1,5 +1,5 @@
 -- Whole numbers as decimal digits in ASCII, most significant first, without needless zeros. Definitions only.
-use Rattle.std.specs.Prelude.{ℕ, zero, suc, ◌+◌, ◌-◌, ◌*◌, ◌/◌, ◌%◌, ◌^◌, Bool, true, false, ◌&&◌, cond, List, [], ◌∷◌, leb, ltb, eqb, length, get_or, drop, ℤ, pos, negsuc}
+use Rattle.std.specs.Prelude.{ℕ, zero, suc, ◌+◌, ◌-◌, ◌*◌, ◌/◌, ◌%◌, ◌^◌, Bool, ◌&&◌, cond, List, [], ◌∷◌, leb, ltb, eqb, length, get_or, drop, ℤ, pos, negsuc}
 use Rattle.std.proofs.Math.Option.{Option, none, some}
 
 -- n's digits, of which there are at most k + 1, in front of s

@@ -1,5 +1,5 @@
 -- `align_input::read_head` meets its contract: line by line, by the laws of `RowLines`.
-use mathlib.Core.Path.{sym, ◌∙◌}
+use mathlib.Core.Path.{sym}
 use Rattle.align_input.proofs.RowLines.{head_bad1, head_bad2, head_whole}
 use Rattle.align_input.proofs.read_head.Goals as goal
 

@@ -5,8 +5,6 @@ use mathlib.Core.List.{List}
 use mathlib.Core.Option.{some}
 use Prim.Native.Nat.{ℕ}
 use Rattle.text.proofs.Cases.{some_none}
-use Rattle.align_input.specs.declared.HeadRead.TheVariants as H
-use Rattle.align_input.specs.declared.RowsRead.TheVariants as RS
 use Rattle.align_input.specs.declared.InputRead.TheVariants as IR
 use Rattle.align_input.specs.declared.TextRow.{TextRow}
 use Rattle.align_input.specs.Input.{Input}

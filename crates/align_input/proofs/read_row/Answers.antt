@@ -1,6 +1,5 @@
 -- `align_input::read_row` meets its contract: line by line, by the laws of `RowLines`.
 use mathlib.Core.Path.{refl, sym, ap, ◌∙◌}
-use native.Mathlib.Omega.{arith}
 use lib.IntN.{ℤ}
 use mir.Syntax.{w32}
 use mir.Facts.{to_z-of_z}

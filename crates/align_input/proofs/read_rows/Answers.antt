@@ -2,15 +2,13 @@
 -- gives what counting and storing all of them gives.
 use mathlib.Core.Path.{◌≡◌, refl, sym, ap, ◌∙◌}
 use mathlib.Core.Option.{none, some}
-use Prim.Native.Nat.{ℕ, ◌+◌, ◌-◌, ◌<◌}
+use Prim.Native.Nat.{ℕ, ◌+◌}
 use native.Mathlib.Nat.{add-zero}
 use native.Mathlib.Omega.{arith}
 use lib.ListN.{drop}
-use Rattle.align_input.specs.declared.TextRow.{TextRow}
-use Rattle.align_input.specs.declared.RowRead.TheVariants.{Row}
 use Rattle.align_input.specs.declared.RowsRead.TheVariants.{Rows}
-use Rattle.align_input.specs.Parse.{row_read, rows_of}
-use Rattle.align_input.specs.Columns.{row_at, count_from, Columns, columns}
+use Rattle.align_input.specs.Parse.{rows_of}
+use Rattle.align_input.specs.Columns.{count_from, Columns, columns}
 use Rattle.align_input.proofs.Rows.{storing, turn_bad, turn_further, turn_count, turn_columns, rows_end}
 use borrow.Author.Rules.{rules}
 use Rattle.align_input.proofs.read_rows.Goals as goal

@@ -2,12 +2,10 @@
 -- writing all of them gives, and a file takes at most 80 bytes.
 use mathlib.Core.Path.{◌≡◌, ap, ◌∙◌, subst}
 use mathlib.Core.List.{List, ◌++◌}
-use Prim.Native.Nat.{ℕ, ◌+◌, ◌-◌, ◌<◌}
+use Prim.Native.Nat.{ℕ, ◌+◌, ◌<◌}
 use native.Mathlib.Omega.{arith}
 use lib.ListN.{length, drop, get_or}
 use lib.Ieee.{Float, nan}
-use mir.Syntax.{w32}
-use mir.Val.{Fits}
 use borrow.Author.Rules.{rules}
 use Rattle.align_output.specs.Output.{printed_in, file_text, files_text}
 use Rattle.align_output.specs.declared.Printed.{Printed}

@@ -1,16 +1,11 @@
 -- `align_text::answer_text` meets its contract: by what was read, and by the limits.
 use mathlib.Core.Path.{◌≡◌, sym, ◌∙◌}
 use mathlib.Core.Bool.{Bool, true}
-use mathlib.Core.List.{List}
-use Prim.Native.Nat.{ℕ, ◌≤◌}
+use Prim.Native.Nat.{ℕ}
 use native.Mathlib.Omega.{arith}
-use lib.IntN.{ℤ}
-use lib.Ieee.{Float}
-use lib.ListN.{length}
 use lib.Seq.{length-take-le}
-use borrow.Author.Tests.{not-true, not-false}
 use Rattle.align_text.specs.AlignText.{max_files, within_limits}
-use Rattle.align_text.proofs.Answers.{malformed_is, Given, given_by, Within, within, limited_is, aligned_is, restated}
+use Rattle.align_text.proofs.Answers.{malformed_is, given_by, Within, within, limited_is, aligned_is, restated}
 use Rattle.align_text.proofs.answer_text.Goals as goal
 
 -- the numbers are within the limits

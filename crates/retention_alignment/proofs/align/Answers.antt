@@ -3,7 +3,7 @@ use mathlib.Core.Path.{◌≡◌, sym, ap, ◌∙◌}
 use mathlib.Core.List.{List, ◌++◌, map}
 use Prim.Native.Nat.{ℕ, ◌*◌, ◌≤◌}
 use native.Mathlib.Omega.{arith}
-use lib.ListN.{length, take, drop, replicate, length-append}
+use lib.ListN.{length, take, drop, replicate}
 use lib.Seq.{take_at}
 use Rattle.float.specs.Number.{zero64}
 use Rattle.status.specs.Checks.{all_below}
@@ -16,7 +16,7 @@ use Rattle.rt_matrix.specs.declared.Alignment.{Alignment}
 use Rattle.matrix.proofs.Lists.{take_replicate, length_take_replicate, length_tabulate}
 use Rattle.retention_alignment.specs.Observation.{max_rt, max_rts}
 use Rattle.retention_alignment.specs.Alignments.{alignments, aligned}
-use Rattle.retention_alignment.specs.Call.{Input, input_at, rows}
+use Rattle.retention_alignment.specs.Call.{input_at, rows}
 use Rattle.retention_alignment.proofs.Rows.{by_records}
 use Rattle.retention_alignment.proofs.align.Goals as goal
 

@@ -1,9 +1,8 @@
 -- `retention_alignment::align_accepted` meets its contract: the work's parts are written back.
-use mathlib.Core.Path.{◌≡◌, sym, ◌∙◌}
-use mathlib.Core.List.{List, ◌++◌}
-use Prim.Native.Nat.{ℕ, ◌≤◌}
+use mathlib.Core.Path.{sym, ◌∙◌}
+use Prim.Native.Nat.{◌≤◌}
 use native.Mathlib.Omega.{arith}
-use lib.ListN.{length, take, drop, length-append, length-drop}
+use lib.ListN.{length}
 use lib.Seq.{length-take-le}
 use Rattle.rt_matrix.specs.Columns.{file_columns_at}
 use Rattle.rt_matrix.proofs.RecordColumns.{first_each}

@@ -2,12 +2,9 @@
 -- (`up_to i`), and the length is as it was.
 use mathlib.Core.Path.{refl, sym, ap, ◌∙◌}
 use mathlib.Core.List.{map}
-use Prim.Native.Nat.{◌-◌, ◌*◌, ◌<◌}
 use native.Mathlib.Omega.{arith}
-use borrow.Author.Rules.{rules, scaled_Fits}
-use mir.Syntax.{w64}
-use mir.Val.{Fits}
-use lib.ListN.{length, get_or, length-set, length-map, get_or-map}
+use borrow.Author.Rules.{rules}
+use lib.ListN.{length, length-set, length-map, get_or-map}
 use lib.Ieee.{nan}
 use Rattle.status.proofs.Laws.{below_at}
 use Rattle.matrix.proofs.Lists.{over, zipped_over}

@@ -1,5 +1,5 @@
 -- `retention_alignment::global_alignment` meets its contract: refused by the status, or accepted and done.
-use mathlib.Core.Path.{◌≡◌, sym, ◌∙◌}
+use mathlib.Core.Path.{sym, ◌∙◌}
 use Rattle.rt_matrix.specs.Columns.{file_columns_at}
 use Rattle.retention_alignment.specs.Call.{input_at, slices_at}
 use Rattle.retention_alignment.proofs.Calls.{refused, accepted_is}

@@ -1,7 +1,7 @@
 -- `retention_alignment::times::clear` meets its contract. The loop's invariant: the first k cells are ABSENT, the
 -- others as they were.
 use mathlib.Core.Path.{◌≡◌, refl, ◌∙◌}
-use Prim.Native.Nat.{◌-◌, ◌<◌}
+use Prim.Native.Nat.{◌<◌}
 use native.Mathlib.Omega.{arith}
 use native.Mathlib.Numerals.{add-one}
 use borrow.Author.Rules.{rules}

@@ -2,7 +2,7 @@
 -- others as they were.
 use mathlib.Core.Path.{◌≡◌}
 use mathlib.Core.List.{◌++◌}
-use Prim.Native.Nat.{◌+◌, ◌-◌, ◌≤◌}
+use Prim.Native.Nat.{◌-◌, ◌≤◌}
 use lib.ListN.{length, drop, replicate}
 use Rattle.rt_matrix.specs.Cells.{absent}
 use Rattle.retention_alignment.proofs.times.clear.Given as goal

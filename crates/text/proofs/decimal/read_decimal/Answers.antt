@@ -18,7 +18,7 @@ returns c =
     let max = c.args.max in
     let e : read_decimal max s ≡ read_from max 0 s =
     elim c.if-s-gt1.branch [
-      then-s-gt1+else-s-eq48 w ↦ read_more max s w.if-s-gt1.true w.if-s-eq48.false
+      | then-s-gt1+else-s-eq48 w ↦ read_more max s w.if-s-gt1.true w.if-s-eq48.false
       | else-s-gt1 w ↦ read_one max s c.if-s-eq0.false w.if-s-gt1.false
     ] in
     c.digits_up_to.ensures ∙ ap decimal_read (sym e)

@@ -1,12 +1,9 @@
 -- `text::line::find_value` meets its contract: by where the line ends, and by whether it begins with the key.
-use mathlib.Core.Path.{◌≡◌, sym, ap, ◌∙◌}
-use mathlib.Core.List.{List}
-use Prim.Native.Nat.{ℕ}
+use mathlib.Core.Path.{sym, ap, ◌∙◌}
 use native.Mathlib.Omega.{arith}
 use lib.ListN.{drop}
-use Rattle.text.specs.declared.line.LineEnd.TheVariants as E
 use Rattle.text.specs.Line.{line_of}
-use Rattle.text.specs.Answer.{line_end, value_at}
+use Rattle.text.specs.Answer.{value_at}
 use Rattle.text.proofs.Answers.{end_none, end_le, end_within, value_found, value_none, key_le}
 use Rattle.text.proofs.line.find_value.Goals as goal
 

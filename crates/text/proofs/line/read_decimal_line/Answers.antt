@@ -1,14 +1,10 @@
 -- `text::line::read_decimal_line` meets its contract: by where the value stands, and by what it is.
-use mathlib.Core.Path.{◌≡◌, sym, ap, ◌∙◌}
-use mathlib.Core.List.{List}
-use Prim.Native.Nat.{ℕ}
+use mathlib.Core.Path.{sym, ap, ◌∙◌}
 use native.Mathlib.Omega.{arith}
-use lib.ListN.{drop}
-use Rattle.text.specs.declared.line.ValueAt.TheVariants as VA
 use Rattle.text.specs.declared.line.DecimalLine.TheVariants as DL
-use Rattle.text.specs.Line.{line_of, decimal_line}
+use Rattle.text.specs.Line.{decimal_line}
 use Rattle.text.specs.Decimal.{read_decimal}
-use Rattle.text.specs.Answer.{value_at, decimal_line_at}
+use Rattle.text.specs.Answer.{decimal_line_at}
 use Rattle.text.proofs.Answers.{line_malformed, found_le, found_within, line_none, line_some, next_is, decimal_none, decimal_some}
 use Rattle.text.proofs.line.read_decimal_line.Goals as goal
 

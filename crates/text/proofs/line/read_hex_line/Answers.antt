@@ -5,10 +5,9 @@ use Prim.Native.Nat.{ℕ, ◌-◌, ◌<◌}
 use native.Mathlib.Omega.{arith}
 use lib.ListN.{length, take, drop, length-drop}
 use lib.Seq.{length-take-le}
-use Rattle.text.specs.declared.line.ValueAt.TheVariants as VA
 use Rattle.text.specs.declared.line.HexLine.TheVariants as HL
-use Rattle.text.specs.Line.{line_of, read_hex_digits, hex_line}
-use Rattle.text.specs.Answer.{value_at, hex_line_at}
+use Rattle.text.specs.Line.{read_hex_digits, hex_line}
+use Rattle.text.specs.Answer.{hex_line_at}
 use Rattle.text.proofs.Answers.{line_malformed, found_le, found_within, line_none, line_some, next_is, digits_other, digits_none, digits_some}
 use Rattle.text.proofs.line.read_hex_line.Goals as goal
 

@@ -1,18 +1,16 @@
 -- `text::line::read_signed_line` meets its contract: by where the value stands, and by what it is.
 use mathlib.Core.Path.{◌≡◌, sym, ap, ◌∙◌}
-use mathlib.Core.List.{List}
-use Prim.Native.Nat.{ℕ, ◌+◌, ◌-◌}
+use Prim.Native.Nat.{◌+◌, ◌-◌}
 use native.Mathlib.Omega.{arith}
 use lib.ListN.{take, drop}
 use lib.IntN.{ℤ}
 use mir.Syntax.{w32}
 use mir.Val.{to_z, of_z}
 use mir.Facts.{to_z-of_z}
-use Rattle.text.specs.declared.line.ValueAt.TheVariants as VA
 use Rattle.text.specs.declared.line.SignedLine.TheVariants as SL
-use Rattle.text.specs.Line.{line_of, signed_line}
+use Rattle.text.specs.Line.{signed_line}
 use Rattle.text.specs.Decimal.{read_signed}
-use Rattle.text.specs.Answer.{value_at, signed_line_at}
+use Rattle.text.specs.Answer.{signed_line_at}
 use Rattle.text.proofs.Numbers.{signed_sound}
 use Rattle.text.proofs.Answers.{line_malformed, found_le, found_within, line_none, line_some, next_is, signed_none, signed_some}
 use Rattle.text.proofs.line.read_signed_line.Goals as goal

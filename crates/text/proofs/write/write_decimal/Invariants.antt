@@ -1,7 +1,7 @@
 -- `text::write::write_decimal` meets its contract. The loop's invariant: the digits of rest in front of those that
 -- are stored are the digits of n, and there is room for them.
 use mathlib.Core.Path.{◌≡◌}
-use Prim.Native.Nat.{◌+◌, ◌-◌, ◌^◌, ◌<◌}
+use Prim.Native.Nat.{◌+◌, ◌^◌, ◌<◌}
 use lib.ListN.{length, drop}
 use Rattle.text.specs.Decimal.{decimal_onto, decimal_of}
 use Rattle.text.proofs.write.write_decimal.Given as goal
