@@ -25,7 +25,13 @@ pub status_is : (model : Model) (i : Input) (room : Bool) (a b : Bool) (t : ℕ)
     → t ≡ table_status i.table.letters i.table.offsets (length i.table.masses)
     → f ≡ all_below (length i.table.masses) i.peptides
     → first_failing
-    ((bad_lengths, a) ∷ (past_limit, b) ∷ (too_short, room) ∷ (t, eqb t accepted) ∷ (bad_file, true) ∷ (bad_peptide, f) ∷ [])
+    ((bad_lengths, a)
+    ∷ (past_limit, b)
+    ∷ (too_short, room)
+    ∷ (t, eqb t accepted)
+    ∷ (bad_file, true)
+    ∷ (bad_peptide, f)
+    ∷ [])
     ≡ status_by model i room
 unfolding status_by
 status_is model i room a b t f one two table five =

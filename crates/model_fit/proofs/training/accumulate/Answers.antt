@@ -3,17 +3,15 @@
 use mathlib.Core.Path.{◌≡◌, refl, sym, ap, ◌∙◌, subst}
 use mathlib.Core.Bool.{true, false}
 use mathlib.Core.List.{List, [], ◌∷◌, ◌++◌}
-use Prim.Native.Nat.{ℕ, ◌+◌, ◌-◌, ◌≤◌, ◌<◌}
+use Prim.Native.Nat.{ℕ, ◌+◌, ◌<◌}
 use native.Mathlib.Omega.{arith}
 use native.Mathlib.Numerals.{add-one}
 use lib.IntN.{pos}
 use lib.Ieee.{Float, nan}
 use lib.ListN.{length, get_or}
 use borrow.Author.Rules.{rules}
-use Rattle.status.specs.Limits.{max_letters}
 use Rattle.feature.specs.Feature.{trains, kept}
-use Rattle.peptide.specs.Table.{Table}
-use Rattle.embedding.specs.Design.{order_of, design}
+use Rattle.embedding.specs.Design.{order_of}
 use Rattle.embedding.specs.declared.Model.{Model}
 use Rattle.regression.specs.Regression.{Sample, extended, normal, sums_of, plus_target}
 use Rattle.packed_rows.specs.Falling.{RowStarts}
@@ -24,7 +22,7 @@ use Rattle.regression.proofs.Laws.{sums_nil, sums_snoc}
 use Rattle.regression.proofs.Workspace.{length_holding, add_visited_holds}
 use Rattle.model_fit.specs.Input.{Input, input_at}
 use Rattle.model_fit.specs.Samples.{sample_from}
-use Rattle.model_fit.specs.Shared.{Listed, Checked}
+use Rattle.model_fit.specs.Shared.{Checked}
 use Rattle.model_fit.proofs.Rows.{order_max, wide_design, looked_short, looked_up}
 use Rattle.model_fit.proofs.Rows.{seen, sample_at, seen_trains, seen_outside, seen_all, seen_few}
 use Rattle.model_fit.proofs.Status.{listed}
@@ -63,7 +61,6 @@ one_more model i k x cells cells₁ before after checked h t ex holds e eb ea =
           ∙ ap (λ (t : List Sample). holding D (normal D t)) (sym n),
       ea ∙ ap (λ (v : Sums). plus_target v x.y) eb ∙ sym (sums_snoc ss x) ∙ ap sums_of (sym n),
     )
-
 
 pub put_starts-requires : goal.put_starts-requires
 put_starts-requires c =

@@ -1,7 +1,6 @@
 -- `model_fit::training::accumulate` meets its contract. The loop's invariant: the equations in the workspace and
 -- the sums are those of the training rows among the first i.
 use mathlib.Core.Path.{◌≡◌}
-use mathlib.Core.List.{[]}
 use Prim.Native.Nat.{◌+◌, ◌≤◌}
 use lib.ListN.{length}
 use Rattle.status.specs.Limits.{max_order}

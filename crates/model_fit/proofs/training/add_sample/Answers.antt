@@ -67,7 +67,8 @@ add_row_listed-requires c =
     let places : List ℕ = take l.result l.new.places in
     let values : List Float = take l.result l.new.values in
     let e : ListedRow (D + 1) a.y places values (extended (sample_from row a.y)) =
-    sample_listed D row a.y places values (wide_design a.model a.letters.now a.log a.mass a.charge) l.ensures.nonzeros in
+    sample_listed D row a.y places values (wide_design a.model a.letters.now a.log a.mass a.charge)
+    l.ensures.nonzeros in
     record {
       workspace = (rw c.order-d.ensures c.requires.workspace, rw c.order-d.ensures c.requires.row_starts);
       values_value = cc;
@@ -83,5 +84,6 @@ returns c =
     let places : List ℕ = take l.result l.new.places in
     let values : List Float = take l.result l.new.values in
     let e : ListedRow (D + 1) a.y places values (extended (sample_from row a.y)) =
-    sample_listed D row a.y places values (wide_design a.model a.letters.now a.log a.mass a.charge) l.ensures.nonzeros in
+    sample_listed D row a.y places values (wide_design a.model a.letters.now a.log a.mass a.charge)
+    l.ensures.nonzeros in
     (rw c.order-d.ensures at c.add_row_listed.ensures.workspace_after) (extended (sample_from row a.y)) e

@@ -1,12 +1,11 @@
 -- `model_fit::training::add_whole` meets its contract: the sample that is put into the row is added to the equations.
-use mathlib.Core.Path.{◌≡◌, sym}
+use mathlib.Core.Path.{sym}
 use mathlib.Core.List.{List}
 use Prim.Native.Nat.{ℕ, ◌+◌, ◌≤◌}
 use native.Mathlib.Omega.{arith}
 use lib.Ieee.{Float}
 use lib.ListN.{length}
 use lib.Seq.{length-take-le}
-use Rattle.status.specs.Limits.{max_order}
 use Rattle.model_fit.proofs.Rows.{order_max}
 use Rattle.model_fit.proofs.training.add_whole.Goals as goal
 

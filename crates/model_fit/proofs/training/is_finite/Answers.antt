@@ -2,7 +2,6 @@
 use mathlib.Core.Path.{◌≡◌, sym, ◌∙◌}
 use mathlib.Core.Bool.{true, false, ◌&&◌}
 use Rattle.float.specs.Value.{is_finite}
-use Rattle.embedding.specs.declared.Model.TheVariants.{Retention}
 use Rattle.regression.specs.Sparse.{all_finite}
 use Rattle.model_fit.proofs.Finite.{sample_finite}
 use Rattle.model_fit.proofs.training.is_finite.Goals as goal

@@ -27,7 +27,6 @@ in_parts k h n cells row places values e room fits wide first rest =
       rest = subst (λ (i : ℕ). Nonzeros i (drop i row) places values) (sym size) rest;
     }
 
-
 pub slice_bounds-predict_listed-end : goal.slice_bounds-predict_listed-end
 slice_bounds-predict_listed-end c =
     omega (arith, c.head-h.ensures, c.requires.letters_len_bound.1, c.split-n.auto.head)

@@ -1,16 +1,10 @@
 -- `model_fit::training::predict_row` meets its contract: the row's peptide is in the table.
-use mathlib.Core.Path.{◌≡◌, ap, ◌∙◌}
+use mathlib.Core.Path.{ap, ◌∙◌}
 use mathlib.Core.List.{List}
-use Prim.Native.Nat.{ℕ, ◌≤◌}
 use lib.Ieee.{Float}
-use lib.ListN.{length, get_or}
-use Rattle.status.specs.Limits.{max_letters}
 use Rattle.peptide.specs.Table.{Table}
-use Rattle.embedding.specs.Design.{design}
 use Rattle.regression.specs.Regression.{dot}
-use Rattle.model_fit.specs.Input.{table_at, query_of}
-use Rattle.model_fit.specs.Samples.{design_of}
-use Rattle.model_fit.specs.Shared.{Listed}
+use Rattle.model_fit.specs.Input.{table_at}
 use Rattle.model_fit.proofs.Rows.{looked_short, looked_up}
 use Rattle.model_fit.proofs.Status.{listed}
 use Rattle.model_fit.proofs.training.predict_row.Goals as goal
@@ -30,8 +24,7 @@ mass_at-mass-requires c =
 pub predict_peptide-requires-clause-letters_len_bound : goal.predict_peptide-requires-clause-letters_len_bound
 predict_peptide-requires-clause-letters_len_bound c =
     let a = c.args in
-    let t : Table = table_at a.letters a.offsets a.masses a.logs in
-    (
+    let t : Table = table_at a.letters a.offsets a.masses a.logs in (
       looked_short t _ c.sequence-sequence.result.now c.sequence-sequence.ensures
           (listed t a.peptide.now a.i c.requires.numbered c.requires.i_in_bounds.0),
       c.requires.i_in_bounds.1,

@@ -1,12 +1,11 @@
 -- `model_fit::training::predict_whole` meets its contract: the row's first cells are the design row, as `embed` says.
 use mathlib.Core.Path.{◌≡◌, sym, ap, ◌∙◌}
 use mathlib.Core.List.{List}
-use Prim.Native.Nat.{ℕ, ◌≤◌}
+use Prim.Native.Nat.{ℕ}
 use native.Mathlib.Omega.{arith}
 use lib.Ieee.{Float}
-use lib.ListN.{length, take}
+use lib.ListN.{take}
 use lib.Seq.{length-take-le}
-use Rattle.status.specs.Limits.{max_order}
 use Rattle.embedding.specs.Design.{order_of, design as row_of}
 use Rattle.regression.specs.Regression.{dot}
 use Rattle.model_fit.proofs.Laws.{front_take}

@@ -2,13 +2,11 @@
 -- of the training rows, and what the solver says of them is the fit but for its squared errors.
 use mathlib.Core.Path.{◌≡◌, sym, ap, ◌∙◌}
 use mathlib.Core.List.{List}
-use Prim.Native.Nat.{ℕ, ◌<◌}
 use native.Mathlib.Omega.{arith}
-use lib.Ieee.{Float}
 use lib.ListN.{length}
 use Rattle.embedding.specs.Design.{order_of}
-use Rattle.regression.specs.Regression.{Sample, normal}
-use Rattle.regression.specs.Workspace.{FitSlices, holding}
+use Rattle.regression.specs.Regression.{Sample}
+use Rattle.regression.specs.Workspace.{FitSlices}
 use Rattle.regression.specs.declared.Sums.{Sums}
 use Rattle.regression.proofs.Workspace.{cleared_holds}
 use Rattle.model_fit.specs.Input.{input_at}

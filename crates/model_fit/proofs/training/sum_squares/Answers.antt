@@ -2,10 +2,8 @@
 -- among the first k.
 use mathlib.Core.Path.{refl, sym, ap, ◌∙◌}
 use mathlib.Core.Bool.{true, false}
-use Prim.Native.Nat.{◌-◌, ◌<◌}
 use native.Mathlib.Omega.{arith}
 use lib.Ieee.{of_bits}
-use lib.ListN.{length}
 use borrow.Author.Rules.{rules}
 use Rattle.regression.specs.Regression.{sse as sse_of}
 use Rattle.model_fit.specs.Input.{Input, input_at}

@@ -2,18 +2,14 @@
 -- predictions of the first i rows, the others are as they were, the count is of those rows, and the sum is that of the
 -- training rows among them.
 use mathlib.Core.Path.{◌≡◌, refl, sym, ap, ◌∙◌}
-use mathlib.Core.Bool.{not}
 use mathlib.Core.List.{List, map}
-use Prim.Native.Nat.{ℕ, ◌+◌, ◌-◌, ◌≤◌, ◌<◌}
+use Prim.Native.Nat.{◌≤◌, ◌<◌}
 use native.Mathlib.Omega.{arith}
 use lib.Ieee.{Float, of_bits}
 use lib.ListN.{length, get_or, take, length-set}
 use lib.Seq.{take_all}
-use mir.Val.{bool_byte}
 use Rattle.status.specs.Limits.{max_rows}
-use Rattle.peptide.specs.Table.{Table}
 use Rattle.embedding.specs.Count.{how_many}
-use Rattle.embedding.specs.declared.Model.{Model}
 use Rattle.regression.specs.Regression.{sse as sse_of}
 use Rattle.model_fit.specs.Input.{Input, Query, input_at, query_of, queries}
 use Rattle.matrix.proofs.Lists.{overwrite_all}

@@ -3,7 +3,7 @@
 -- training rows among them.
 use mathlib.Core.Path.{◌≡◌}
 use mathlib.Core.List.{◌++◌, map}
-use Prim.Native.Nat.{◌+◌, ◌≤◌}
+use Prim.Native.Nat.{◌≤◌}
 use lib.ListN.{length, take, drop}
 use Rattle.status.specs.Limits.{max_order}
 use Rattle.embedding.specs.Design.{head_of}
