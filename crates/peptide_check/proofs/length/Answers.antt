@@ -1,5 +1,5 @@
 -- `peptide_check::length` is safe: a table that passes has each peptide below its number of peptides.
-use mathlib.Core.Path.{◌∙◌, sym}
+use Rattle.std.proofs.Common.{◌∙◌, sym}
 use Rattle.peptide.proofs.Laws.{has_peptide}
 use Rattle.peptide_check.proofs.length.Goals as goal
 
