@@ -175,10 +175,10 @@ module _ (model : Model) (i : Input) (s : Change FitSlices) (r : Solving) (f : S
       → FittedWithin model i s o
   completed d ed e = rw (is_outcome, e, ed) f
 
-  pub uncompleted : is_solved (outcome_of r errors) ≡ false → FittedWithin model i s o
+  pub uncompleted : is_solved o ≡ false → FittedWithin model i s o
   uncompleted h =
       let e : Float = sse (take (order_of model) s.exit.coefficients) (training_samples model i) in
-      rw (is_outcome, same_unsolved r errors e h) f
+      rw (is_outcome, same_unsolved r errors e (rw is_outcome at h)) f
 
 -- ---- the status
 

@@ -1,5 +1,5 @@
 -- `run::run` meets its contract: refused by the status, or the work of an accepted call.
-use Rattle.std.proofs.Common.{◌≡◌, sym, ◌∙◌}
+use Rattle.std.proofs.Common.{◌≡◌, sym, ◌∙◌, arith}
 use Rattle.status.specs.Status.{accepted}
 use Rattle.rt_matrix.specs.Columns.{file_columns_at}
 use Rattle.models.specs.Call.{outputs_at}
@@ -64,5 +64,6 @@ returns c =
             error = w.new.mobility_error;
           };
     } in
-    let accepts : status i s ≡ accepted = sym c.check-status.ensures ∙ c.if-status-ne-ACCEPTED.false in
+    let none : c.check-status.result ≡ 0 = omega arith in
+    let accepts : status i s ≡ accepted = sym c.check-status.ensures ∙ none in
     run_accepted i s t w.result accepts w.ensures

@@ -32,7 +32,7 @@ fn stored_text(name: &str) -> String {
     std::fs::read_to_string(&path).unwrap_or_else(|e| panic!("{}: {e}", path.display()))
 }
 
-/// The stored pairs, in what the program writes, which must be what the Rust gives: `rt check` holds that to its file
+/// The stored pairs, in what the program writes, which must be what the Rust gives: `rt ci` holds that to its file
 /// `stdout`, byte for byte.
 #[test]
 fn the_proved_program_keeps_the_rule() {

@@ -23,7 +23,8 @@ returns-in_default c =
     let i : Input =
     input_at a.peptide a.label a.q a.charge a.observed a.letters a.offsets a.masses a.logs in
     let g = c.solve_accepted-solving in
-    uncompleted a.model i _ g.result g.ensures _ _ c.outcome.ensures (not_solved_lem g.result _ c.in_default.not-Solved)
+    uncompleted a.model i _ g.result g.ensures _ _ c.outcome.ensures
+    (rw c.outcome.ensures (not_solved_lem g.result _ c.in_default.not-Solved))
 
 pub slice_bounds-sum_squares-end : goal.slice_bounds-sum_squares-end
 slice_bounds-sum_squares-end c =

@@ -1,5 +1,5 @@
 -- `models::prediction::predict_accepted` meets its contract: solved and written, or not solved and left.
-use mathlib.Core.Path.{◌≡◌, ap, ◌∙◌}
+use mathlib.Core.Path.{◌≡◌, ◌∙◌}
 use mathlib.Core.Bool.{true, false}
 use mathlib.Core.List.{List}
 use Prim.Native.Nat.{ℕ, ◌≤◌}
@@ -17,6 +17,7 @@ use Rattle.models.proofs.Calls.{is_solved_lem, not_solved_lem, completed, uncomp
 use Rattle.models.proofs.Calls.{solved_count, solved_predictions, solved_errors}
 use Rattle.models.proofs.Calls.{unsolved_count, unsolved_predictions, unsolved_errors}
 use lib.Seq.{length-take-le}
+use borrow.Author.Rules.{rules}
 use Rattle.models.proofs.prediction.predict_accepted.Goals as goal
 
 -- as many coefficients are lent as there are columns
@@ -43,9 +44,8 @@ returns-in_default c =
     input_at a.peptide a.label a.q a.charge a.observed a.letters a.offsets a.masses a.logs in
     let g = c.solve_accepted-fit in
     let r : FitOutcome = c.outcome.result in
-    let n = not_solved_lem g.result _ c.in_default.not-Solved in
-    let u : is_solved r ≡ false = ap is_solved c.outcome.ensures ∙ n in
-    let f = uncompleted a.model i _ g.result g.ensures _ r c.outcome.ensures n in
+    let u : is_solved r ≡ false = rw c.outcome.ensures (search (rules, not_solved_lem)) in
+    let f = uncompleted a.model i _ g.result g.ensures _ r c.outcome.ensures u in
     predicted_within a.model i (predict_at a.workspace a.beta a.predicted a.error) _ _ f
     (unsolved_count a.model i _ _ r f u)
     (unsolved_predictions a.model i _ _ r f u a.predicted.now)
@@ -110,7 +110,7 @@ returns c =
     let new : List Float = w.new.predicted in
     let r : FitOutcome = c.outcome-2.result in
     let u : is_solved r ≡ true =
-    ap is_solved c.outcome-2.ensures ∙ is_solved_lem g.result _ _ _ c.in-Solved.is in
+    rw c.outcome-2.ensures (search (rules, is_solved_lem)) in
     let f =
     completed a.model i _ g.result g.ensures _ r c.outcome-2.ensures
     d.result d.ensures w.ensures.sse_value in
