@@ -11,6 +11,7 @@ fn read_text(input: &mut impl Read, text: &mut [u8]) -> io::Result<usize>
     ensures { IfOk result (λ n. n ≤ length text.new) }
 {
     let mut done = 0;
+    // A `while`: how many bytes come shows only as they are read.
     while done < text.len() {
         let n = input.read(&mut text[done..])?;
         if n == 0 {

@@ -2,7 +2,7 @@
 use mathlib.Core.Path.{◌≡◌, refl, sym, ap, ◌∙◌, subst}
 use mathlib.Core.Logic.{◌↔◌}
 use mathlib.Core.List.{List, [], ◌∷◌, ◌++◌, map, flatten, append_assoc, append-nil}
-use mathlib.Core.Option.{Option, none, some}
+use Rattle.std.specs.Prelude.{Option, None, Some}
 use Prim.Native.Nat.{ℕ, zero, suc, ◌≤◌, ◌<◌, ◌^◌}
 use native.Mathlib.Nat.{le_refl}
 use native.Mathlib.Omega.{arith}
@@ -38,13 +38,13 @@ use Rattle.align_input.specs.Input.{
   q_key,
   rt_key,
 }
+use Rattle.align_input.specs.declared.Head.{Head}
 use Rattle.align_input.specs.Parse.{
   row_read,
   on_row,
   cons_row,
   rows_from,
   rows_of,
-  Head,
   head_read,
   with_rows,
   after_head,
@@ -52,11 +52,11 @@ use Rattle.align_input.specs.Parse.{
 }
 
 -- ---- a row: its five lines, one after the other
-abbrev None : Type 0
-None = Unit {0}
+abbrev Nothing : Type 0
+Nothing = Unit {0}
 
 abbrev Parts : Type 0
-Parts = ((((None × ℕ) × ℕ) × ℤ) × ℕ) × ℕ
+Parts = ((((Nothing × ℕ) × ℕ) × ℤ) × ℕ) × ℕ
 
 abbrev made : Parts → TextRow
 made c = record { file = c.0.0.0.0.1; peptide = c.0.0.0.1; label = c.0.0.1; q = c.0.1; rt = c.1 }
@@ -66,9 +66,9 @@ parts r = (((((tt, r.file), r.peptide), r.label), r.q), r.rt)
 
 abbrev Ok : TextRow → Type 0
 Ok r =
-    (r.file ≤ max_u32) × ((r.peptide ≤ max_u32) × ((mag r.label < 2 ^ 31) × ((r.q < 16 ^ 8) × ((r.rt < 16 ^ 8) × None))))
+    (r.file ≤ max_u32) × ((r.peptide ≤ max_u32) × ((mag r.label < 2 ^ 31) × ((r.q < 16 ^ 8) × ((r.rt < 16 ^ 8) × Nothing))))
 
-row_continues : Continues {C = None} (λ u. row_read) (λ r. tt) row_text Ok (λ s. None)
+row_continues : Continues {C = Nothing} (λ u. row_read) (λ r. tt) row_text Ok (λ s. Nothing)
 unfolding row_read row_text flatten line_of
 row_continues =
     then_continues _ _ _ (decimal_line_reads file_key refl max_u32) _ _ (λ r. r.file) _ _ _
@@ -93,7 +93,7 @@ unfolding row_text flatten
 row_some r = omega arith
 
 -- ---- rows
-pub rows_empty : (k : ℕ) → rows_from k [] ≡ some []
+pub rows_empty : (k : ℕ) → rows_from k [] ≡ Some []
 unfolding rows_from
 rows_empty zero = refl
 rows_empty (suc k) = refl
@@ -113,7 +113,7 @@ abbrev rows_text : List TextRow → List ℕ
 rows_text rows = flatten (map row_text rows)
 
 rows_complete : (rows : List TextRow) → Each RowInRange rows → (k : ℕ) → length (rows_text rows) ≤ k
-    → rows_from k (rows_text rows) ≡ some rows
+    → rows_from k (rows_text rows) ≡ Some rows
 unfolding flatten
 rows_complete [] o k h = rows_empty k
 rows_complete (r ∷ rows) (cons o os) zero h =
@@ -129,12 +129,12 @@ rows_complete (r ∷ rows) (cons o os) (suc k) h =
 abbrev Right : List ℕ → List TextRow → Type 0
 Right s rows = Each RowInRange rows × (s ≡ rows_text rows)
 
-right_nil : (rows : List TextRow) → some [] ≡ some rows → Right [] rows
+right_nil : (rows : List TextRow) → Some [] ≡ Some rows → Right [] rows
 unfolding flatten
 right_nil rows h = let e : [] ≡ rows = cc in subst (λ (rs : List TextRow). Right [] rs) e (nil, refl)
 
 right_cons : (r : TextRow) (s : List ℕ) (n : ℕ) (rest rows : List TextRow) → row_read s ≡ value r n
-    → Right (drop n s) rest → some (r ∷ rest) ≡ some rows → Right s rows
+    → Right (drop n s) rest → Some (r ∷ rest) ≡ Some rows → Right s rows
 unfolding flatten
 right_cons r s n rest rows h w e =
     let x = row_reads.sound r n s h in
@@ -143,26 +143,26 @@ right_cons r s n rest rows h w e =
     (cons x.0 w.0, x.2 ∙ ap (λ (t : List ℕ). row_text r ++ t) w.1)
 
 module _ (k : ℕ) (s : List ℕ) (rows : List TextRow)
-    (later : (t : List ℕ) (rs : List TextRow) → rows_from k t ≡ some rs → Right t rs) where
+    (later : (t : List ℕ) (rs : List TextRow) → rows_from k t ≡ Some rs → Right t rs) where
   rows_next : (r : TextRow) (n : ℕ) → row_read s ≡ value r n → (o : Option (List TextRow))
-      → rows_from k (drop n s) ≡ o → cons_row r o ≡ some rows → Right s rows
-  rows_next r n e none f g = some_none (some rows) rows refl (sym g)
-  rows_next r n e (some rest) f g = right_cons r s n rest rows e (later (drop n s) rest f) g
+      → rows_from k (drop n s) ≡ o → cons_row r o ≡ Some rows → Right s rows
+  rows_next r n e None f g = some_none (Some rows) rows refl (sym g)
+  rows_next r n e (Some rest) f g = right_cons r s n rest rows e (later (drop n s) rest f) g
 
   rows_first : (x : Read TextRow) → row_read s ≡ x
-      → on_row x (λ r n. cons_row r (rows_from k (drop n s))) ≡ some rows → Right s rows
-  rows_first malformed e g = some_none (some rows) rows refl (sym g)
+      → on_row x (λ r n. cons_row r (rows_from k (drop n s))) ≡ Some rows → Right s rows
+  rows_first malformed e g = some_none (Some rows) rows refl (sym g)
   rows_first (value r n) e g = rows_next r n e (rows_from k (drop n s)) refl g
 
-rows_sound : (k : ℕ) (s : List ℕ) (rows : List TextRow) → rows_from k s ≡ some rows → Right s rows
+rows_sound : (k : ℕ) (s : List ℕ) (rows : List TextRow) → rows_from k s ≡ Some rows → Right s rows
 unfolding rows_from
 rows_sound zero [] rows h = right_nil rows h
-rows_sound zero (c ∷ s) rows h = some_none (some rows) rows refl (sym h)
+rows_sound zero (c ∷ s) rows h = some_none (Some rows) rows refl (sym h)
 rows_sound (suc k) [] rows h = right_nil rows h
 rows_sound (suc k) (c ∷ s) rows h =
     rows_first k (c ∷ s) rows (λ t rs. rows_sound k t rs) (row_read (c ∷ s)) refl h
 
-rows_of_sound : (s : List ℕ) (rows : List TextRow) → rows_of s ≡ some rows → Right s rows
+rows_of_sound : (s : List ℕ) (rows : List TextRow) → rows_of s ≡ Some rows → Right s rows
 unfolding rows_of
 rows_of_sound s rows h = rows_sound (length s) s rows h
 
@@ -171,9 +171,9 @@ head_text : Head → List ℕ
 head_text h = flatten (line files_key (decimal_of h.files) ∷ line peptides_key (decimal_of h.peptides) ∷ [])
 
 abbrev HeadOk : Head → Type 0
-HeadOk h = (h.files ≤ max_u32) × ((h.peptides ≤ max_u32) × None)
+HeadOk h = (h.files ≤ max_u32) × ((h.peptides ≤ max_u32) × Nothing)
 
-head_continues : Continues {C = None} (λ u. head_read) (λ h. tt) head_text HeadOk (λ s. None)
+head_continues : Continues {C = Nothing} (λ u. head_read) (λ h. tt) head_text HeadOk (λ s. Nothing)
 unfolding head_read head_text flatten line_of
 head_continues =
     then_continues _ _ _ (decimal_line_reads files_key refl max_u32) _ _ (λ h. h.files) _ _ _
@@ -205,7 +205,7 @@ module _ (d : Input) (o : InRange d) (l : length (render d) ≤ max_bytes) where
   abbrev rest : List ℕ
   rest = rows_text d.rows
 
-  whole : after_head (head_read (head_text h ++ rest)) (head_text h ++ rest) ≡ some d
+  whole : after_head (head_read (head_text h ++ rest)) (head_text h ++ rest) ≡ Some d
   unfolding rows_of
   whole =
       ap (λ (x : Read Head). after_head x (head_text h ++ rest))
@@ -213,20 +213,20 @@ module _ (d : Input) (o : InRange d) (l : length (render d) ≤ max_bytes) where
       ∙ ap (λ (t : List ℕ). with_rows h (rows_of t)) (drop-append_seam (head_text h) rest)
       ∙ ap (with_rows h) (rows_complete d.rows o.rows (length rest) (le_refl (length rest)))
 
-  pub parse_complete : parse (render d) ≡ some d
+  pub parse_complete : parse (render d) ≡ Some d
   unfolding parse
   parse_complete =
       simp (le-leb (length (render d)) max_bytes l)
-      (subst (λ (t : List ℕ). after_head (head_read t) t ≡ some d) (sym (render_is d)) whole)
+      (subst (λ (t : List ℕ). after_head (head_read t) t ≡ Some d) (sym (render_is d)) whole)
 
 module _ (t : List ℕ) (d : Input) where
   abbrev Whole : Type 0
   Whole = (t ≡ render d) × InRange d
 
   rows_whole : (h : Head) (n : ℕ) → head_read t ≡ value h n → (o : Option (List TextRow))
-      → rows_of (drop n t) ≡ o → with_rows h o ≡ some d → Whole
-  rows_whole h n e none f g = some_none (some d) d refl (sym g)
-  rows_whole h n e (some rows) f g =
+      → rows_of (drop n t) ≡ o → with_rows h o ≡ Some d → Whole
+  rows_whole h n e None f g = some_none (Some d) d refl (sym g)
+  rows_whole h n e (Some rows) f g =
       let w = head_reads.sound h n t e in
       let x = rows_of_sound (drop n t) rows f in
       let p : record { files = h.files; peptides = h.peptides; rows = rows } ≡ d = cc in
@@ -235,11 +235,11 @@ module _ (t : List ℕ) (d : Input) where
         subst InRange p (record { files = w.0.0; peptides = w.0.1.0; rows = x.0 }),
       )
 
-  head_whole : (x : Read Head) → head_read t ≡ x → after_head x t ≡ some d → Whole
-  head_whole malformed e g = some_none (some d) d refl (sym g)
+  head_whole : (x : Read Head) → head_read t ≡ x → after_head x t ≡ Some d → Whole
+  head_whole malformed e g = some_none (Some d) d refl (sym g)
   head_whole (value h n) e g = rows_whole h n e (rows_of (drop n t)) refl g
 
-  parse_sound : parse t ≡ some d → (t ≡ render d) × InRange d × (length t ≤ max_bytes)
+  parse_sound : parse t ≡ Some d → (t ≡ render d) × InRange d × (length t ≤ max_bytes)
   unfolding parse
   parse_sound h =
       by_bool (leb (length t) max_bytes)
@@ -247,7 +247,7 @@ module _ (t : List ℕ) (d : Input) where
       (λ b. some_none (parse t) d h (simp b))
 
   -- a text is read, as d, exactly if it is the text of d, d is in range and the text is not too long
-  pub grammar : (parse t ≡ some d) ↔ ((t ≡ render d) × InRange d × (length t ≤ max_bytes))
+  pub grammar : (parse t ≡ Some d) ↔ ((t ≡ render d) × InRange d × (length t ≤ max_bytes))
   grammar = (
     parse_sound,
     λ w. ap parse w.0 ∙ parse_complete d w.1 (subst (λ (s : List ℕ). length s ≤ max_bytes) w.0 w.2),

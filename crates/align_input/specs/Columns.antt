@@ -1,41 +1,17 @@
--- The answers of the functions that read, and the columns that rows are stored in. Definitions only.
-use Rattle.std.specs.Prelude.{ℕ, ◌+◌, List, map, length, set, ℤ, Float}
-use Rattle.std.proofs.Math.Option.{Option, none, some}
-use Rattle.params.specs.Slice.{Change, change, MutSlice}
+-- The columns that rows are stored in. Definitions only.
+use Rattle.std.specs.Prelude.{ℕ, ◌≡◌, List, map, length, set, ℤ, Float}
+use Rattle.std.specs.Borrow.{MutBor}
+use Rattle.params.specs.Slice.{Change}
 use Rattle.std.proofs.lemmas.List.Edits.{sets}
 use Rattle.std.specs.Float.{binary32}
 use Rattle.std.specs.Float.Ieee.{of_bits}
-use Rattle.text.specs.Reader.{Read, value, malformed}
 use Rattle.align_input.specs.declared.TextRow.{TextRow}
-use Rattle.align_input.specs.declared.RowRead as RR
-use Rattle.align_input.specs.declared.RowRead.{RowRead}
-use Rattle.align_input.specs.declared.HeadRead as HR
-use Rattle.align_input.specs.declared.HeadRead.{HeadRead}
-use Rattle.align_input.specs.declared.RowsRead as RS
-use Rattle.align_input.specs.declared.RowsRead.{RowsRead}
-use Rattle.align_input.specs.declared.InputRead as IR
-use Rattle.align_input.specs.declared.InputRead.{InputRead}
+use Rattle.align_input.specs.declared.Sizes.{Sizes}
+use Rattle.align_input.specs.declared.Columns.{Columns as Slices}
 use Rattle.align_input.specs.Input.{Input}
-use Rattle.align_input.specs.Parse.{Head}
 
--- a row that was read from at on, and the place after it
-abbrev pub row_at : ℕ → Read TextRow → RowRead
-row_at at (value r n) = RR.TheVariants.Row r (at + n)
-row_at at malformed = RR.TheVariants.Malformed
-
--- the two lines before the rows, and the place after them
-abbrev pub head_at : ℕ → Read Head → HeadRead
-head_at at (value h n) = HR.TheVariants.Head h.files h.peptides (at + n)
-head_at at malformed = HR.TheVariants.Malformed
-
--- the number of rows, i of them before these
-abbrev pub count_from : ℕ → Option (List TextRow) → RowsRead
-count_from i none = RS.TheVariants.Malformed
-count_from i (some rows) = RS.TheVariants.Rows (i + length rows)
-
-abbrev pub input_read : Option Input → InputRead
-input_read none = IR.TheVariants.Malformed
-input_read (some d) = IR.TheVariants.Read d.files d.peptides (length d.rows)
+abbrev pub sizes_of : Input → Sizes
+sizes_of d = record { files = d.files; peptides = d.peptides; rows = length d.rows }
 
 -- the f32 of a pattern
 abbrev pub q_of : TextRow → Float
@@ -44,7 +20,7 @@ q_of r = of_bits binary32 r.q
 abbrev pub rt_of : TextRow → Float
 rt_of r = of_bits binary32 r.rt
 
--- five columns, with a cell for each row
+-- five columns of rows: a list for each field
 pub record Columns : Type 0 where
   pub file : List ℕ
   pub peptide : List ℕ
@@ -52,15 +28,21 @@ pub record Columns : Type 0 where
   pub q : List Float
   pub rt : List Float
 
-abbrev pub columns : List ℕ → List ℕ → List ℤ → List Float → List Float → Columns
-columns file peptide label q rt = record { file = file; peptide = peptide; label = label; q = q; rt = rt }
+-- what the slices hold
+abbrev pub held_rows : Slices → Columns
+held_rows c = record { file = c.file.now; peptide = c.peptide.now; label = c.label.now; q = c.q.now; rt = c.rt.now }
 
--- as a function's parameters hold them, in an `ensures`
-abbrev pub columns_of : (file peptide : MutSlice ℕ) (label : MutSlice ℤ) (q rt : MutSlice Float) → Change Columns
-columns_of file peptide label q rt =
-    change
-    (columns file.entry.now peptide.entry.now label.entry.now q.entry.now rt.entry.now)
-    (columns file.exit.now peptide.exit.now label.exit.now q.exit.now rt.exit.now)
+-- each slice is the one that was lent
+abbrev pub SameNames : (before after : Slices) → Type 0
+SameNames before after =
+    (after.file.ghost_name ≡ before.file.ghost_name)
+    × (after.peptide.ghost_name ≡ before.peptide.ghost_name)
+    × (after.label.ghost_name ≡ before.label.ghost_name)
+    × (after.q.ghost_name ≡ before.q.ghost_name)
+    × (after.rt.ghost_name ≡ before.rt.ghost_name)
+
+abbrev pub SameSlices : Change (MutBor Slices) → Type 0
+SameSlices c = SameNames c.entry.now c.exit.now
 
 -- a row stored in the i-th cells, if there are such cells
 abbrev pub stored_row : Columns → ℕ → TextRow → Columns

@@ -1,4 +1,3 @@
 -- What the proofs of `align_output` share, and the laws that other crates cite.
-pub mod Pieces
 pub mod Lengths
 pub mod PrintedColumns

@@ -27,10 +27,10 @@ module _ (ms ss is : List Float) (us : List ℕ) (hs : length ss ≡ length ms) 
   length_printed =
       length_zip_with printed_by (zip ms ss) (zip is us) (omega (arith, lines_long, counts_long)) ∙ lines_long
 
-  pub printed_at : (f : ℕ) → f < length ms
+  pub printed_cells : (f : ℕ) → f < length ms
       → get_or (printed_in ms ss is us) f none_printed
       ≡ record { max_rt = get_or ms f nan; slope = get_or ss f nan; intercept = get_or is f nan; used = get_or us f 0 }
-  printed_at f h =
+  printed_cells f h =
       get_d_zip_with printed_by (zip ms ss) (zip is us) f (nan, nan) (nan, 0) none_printed
       (omega (arith, lines_long))
       (omega (arith, counts_long))

@@ -1,15 +1,17 @@
 -- The text of an answer of the align program. Definitions only.
-use Rattle.std.specs.Prelude.{ℕ, ◌+◌, Float}
+use Rattle.std.specs.Prelude.{ℕ, ◌+◌, Float, get_or}
 use mathlib.Core.List.{List, [], ◌∷◌, ◌++◌, map, zip, zip_with, flatten}
 use Rattle.std.specs.Float.{binary32}
-use Rattle.std.specs.Float.Ieee.{to_bits}
+use Rattle.std.specs.Float.Ieee.{to_bits, nan}
 use Rattle.status.specs.Status.{accepted}
 use Rattle.float.specs.Hex.{hex_of}
 use Rattle.text.specs.Ascii.{ascii}
 use Rattle.text.specs.Decimal.{decimal_of}
 use Rattle.text.specs.Line.{line}
 use Rattle.rt_matrix.specs.declared.Alignment.{Alignment}
+use Rattle.params.specs.Slice.{Change}
 use Rattle.align_output.specs.declared.Printed.{Printed}
+use Rattle.align_output.specs.declared.files.Files.{Files}
 
 -- the keys of the output's lines
 abbrev pub status_key : List ℕ
@@ -53,6 +55,24 @@ printed_by p q = record { max_rt = p.0; slope = p.1; intercept = q.0; used = q.1
 
 abbrev pub printed_in : (max_rt slope intercept : List Float) (used : List ℕ) → List Printed
 printed_in max_rt slope intercept used = zip_with printed_by (zip max_rt slope) (zip intercept used)
+
+-- the cells of the i-th file
+abbrev pub cells_at : Files → ℕ → Printed
+cells_at files i =
+    record {
+      max_rt = get_or files.max_rt.now i nan;
+      slope = get_or files.slope.now i nan;
+      intercept = get_or files.intercept.now i nan;
+      used = get_or files.used.now i 0;
+    }
+
+-- what is printed of files, as a `requires` has them
+abbrev pub printed_at : Files → List Printed
+printed_at files = printed_in files.max_rt.now files.slope.now files.intercept.now files.used.now
+
+-- and as an `ensures` has them
+abbrev pub printed_from : Change Files → List Printed
+printed_from files = printed_at files.entry
 
 -- the lines of a file: its number, and what is printed of its record
 unfoldable pub file_text : ℕ → Printed → List ℕ

@@ -1,20 +1,25 @@
-// Writing the answer of the align program. Each function asks for the room it needs, and is for `align_text`.
+// Writing the answer of the align program. Each function asks for room for what it appends, and is for `align_text`.
 #![tactic(auto)]
 
-ghost use Rattle.std.specs.Prelude.{◌≡◌, ◌+◌, ◌*◌, ◌≤◌, length};
-ghost use Rattle.text.specs.Answer.{Wrote};
+ghost use Rattle.std.specs.Prelude.{◌≡◌, ◌+◌, ◌<◌, ◌≤◌, ◌++◌, length};
 ghost use Rattle.align_output.specs.Output.{
   status_text,
   float_line,
-  printed_in,
+  printed_at,
+  printed_from,
   file_text,
   files_text,
   aligned_text,
   accepted_text,
 };
 
+mod files;
+
+pub use files::Files;
+use text::Buffer;
+
 // What is printed of a file's record.
-#[derive(Clone, Copy)]
+#[derive(Clone, Copy, Debug, PartialEq)]
 pub struct Printed {
     pub max_rt: f32,
     pub slope: f32,
@@ -22,109 +27,61 @@ pub struct Printed {
     pub used: u32,
 }
 
-// Writes the line of a status over out from `at` on, and answers the place after it.
-pub fn write_status(out: &mut [u8], at: usize, status: u8) -> usize
-    requires { at + 18 ≤ length out.old }
-    ensures { Wrote out.old at (status_text status) result out.new }
+// Appends the line of a status. A number, and no Refusal: what is accepted has one too.
+pub fn write_status<const N: usize>(out: &mut Buffer<N>, status: u8)
+    requires { length out.old + length (status_text status) ≤ N }
+    ensures { out.new ≡ out.old ++ status_text status }
 {
-    text::write_decimal_line(out, at, b"status=", status as u32)
+    out.push_decimal_line(b"status=", status as u32);
 }
 
-// Writes a line with x's pattern over out from `at` on, and answers the place after it.
-fn write_float(out: &mut [u8], at: usize, key: &[u8], x: f32) -> usize
-    requires { at + length key.now + 9 ≤ length out.old }
-    ensures { Wrote out.old at (float_line key.now x) result out.new }
+// Appends a line with x's pattern.
+fn write_float<const N: usize>(out: &mut Buffer<N>, key: &[u8], x: f32)
+    requires { length out.old + length (float_line key.now x) ≤ N }
+    ensures { out.new ≡ out.old ++ float_line key.now x }
 {
-    text::write_hex_line(out, at, key, float::bits32(x) as u64, 8)
+    out.push_hex_line(key, float::bits32(x) as u64, 8);
 }
 
-// Writes the lines of a file over out from `at` on, and answers the place after them.
-fn write_file(out: &mut [u8], at: usize, i: u32, a: Printed) -> usize
-    requires { at + 80 ≤ length out.old }
-    ensures { Wrote out.old at (file_text i a) result out.new }
+// Appends the lines of a file.
+fn write_file<const N: usize>(out: &mut Buffer<N>, i: u32, a: Printed)
+    requires { length out.old + length (file_text i a) ≤ N }
+    ensures { out.new ≡ out.old ++ file_text i a }
 {
-    let at1 = text::write_decimal_line(out, at, b"file=", i);
-    let at2 = write_float(out, at1, b"max=", a.max_rt);
-    let at3 = write_float(out, at2, b"slope=", a.slope);
-    let at4 = write_float(out, at3, b"intercept=", a.intercept);
-    text::write_decimal_line(out, at4, b"used=", a.used)
+    out.push_decimal_line(b"file=", i);
+    write_float(out, b"max=", a.max_rt);
+    write_float(out, b"slope=", a.slope);
+    write_float(out, b"intercept=", a.intercept);
+    out.push_decimal_line(b"used=", a.used);
 }
 
-// Writes the lines of the files over out from `at` on, and answers the place after them.
-fn write_files(
-    out: &mut [u8],
-    at: usize,
-    max_rt: &[f32],
-    slope: &[f32],
-    intercept: &[f32],
-    used: &[u32],
-) -> usize
-    requires { (at + 80 * length max_rt.now ≤ length out.old)
-        × (length max_rt.now ≤ 4096)
-        × (length slope.now ≡ length max_rt.now)
-        × (length intercept.now ≡ length max_rt.now)
-        × (length used.now ≡ length max_rt.now) }
-    ensures { Wrote
-        out.old
-        at
-        (files_text 0
-        (printed_in max_rt.now slope.now intercept.now used.now))
-        result
-        out.new }
+// Appends the lines of the files.
+fn write_files<const N: usize>(out: &mut Buffer<N>, files: Files<'_>)
+    requires { length out.old + length (files_text 0 (printed_at files)) ≤ N }
+    ensures { out.new ≡ out.old ++ files_text 0 (printed_from files) }
 {
-    let mut next = at;
-    let mut i = 0usize;
-    while i < max_rt.len() {
-        let a = Printed {
-            max_rt: max_rt[i],
-            slope: slope[i],
-            intercept: intercept[i],
-            used: used[i],
-        };
-        next = write_file(out, next, i as u32, a);
-        i += 1;
+    for i in 0..files.count() {
+        let a = files.get(i);
+        write_file(out, i as u32, a);
     }
-    next
 }
 
-// Writes the lines of the rows over out from `at` on, and answers the place after them.
-fn write_aligned(out: &mut [u8], at: usize, aligned: &[f32]) -> usize
-    requires { at + 17 * length aligned.now ≤ length out.old }
-    ensures { Wrote out.old at (aligned_text aligned.now) result out.new }
+// Appends the lines of the rows.
+fn write_aligned<const N: usize>(out: &mut Buffer<N>, aligned: &[f32])
+    requires { length out.old + length (aligned_text aligned.now) ≤ N }
+    ensures { out.new ≡ out.old ++ aligned_text aligned.now }
 {
-    let mut next = at;
-    let mut i = 0usize;
-    while i < aligned.len() {
-        next = write_float(out, next, b"aligned=", aligned[i]);
-        i += 1;
+    for time in aligned {
+        write_float(out, b"aligned=", *time);
     }
-    next
 }
 
-// Writes the answer to an accepted input over out from its start, and answers the place after it.
-pub fn write_accepted(
-    out: &mut [u8],
-    max_rt: &[f32],
-    slope: &[f32],
-    intercept: &[f32],
-    used: &[u32],
-    aligned: &[f32],
-) -> usize
-    requires { (18 + 80 * length max_rt.now + 17 * length aligned.now ≤ length out.old)
-        × (length max_rt.now ≤ 4096)
-        × (length slope.now ≡ length max_rt.now)
-        × (length intercept.now ≡ length max_rt.now)
-        × (length used.now ≡ length max_rt.now) }
-    ensures { Wrote
-        out.old
-        0
-        (accepted_text
-        (printed_in max_rt.now slope.now intercept.now used.now)
-        aligned.now)
-        result
-        out.new }
+// Appends the answer to an accepted input.
+pub fn write_accepted<const N: usize>(out: &mut Buffer<N>, files: Files<'_>, aligned: &[f32])
+    requires { length out.old + length (accepted_text (printed_at files) aligned.now) ≤ N }
+    ensures { out.new ≡ out.old ++ accepted_text (printed_from files) aligned.now }
 {
-    let at1 = write_status(out, 0, status::ACCEPTED);
-    let at2 = write_files(out, at1, max_rt, slope, intercept, used);
-    write_aligned(out, at2, aligned)
+    write_status(out, status::ACCEPTED);
+    write_files(out, files);
+    write_aligned(out, aligned);
 }

@@ -2,7 +2,7 @@
 -- or not at all, and the outputs' first cells are the records' and the rows'.
 use mathlib.Core.Path.{◌≡◌, refl, sym, ap, ap₂, ◌∙◌}
 use mathlib.Core.Bool.{Bool, true, false, cond}
-use mathlib.Core.List.{List, map}
+use mathlib.Core.List.{map}
 use Prim.Native.Nat.{ℕ, ◌*◌, ◌≤◌}
 use native.Mathlib.Nat.{mul-le-mul}
 use native.Mathlib.Omega.{arith}
@@ -13,9 +13,10 @@ use borrow.Author.Tests.{le-leb, eq-eqb, eqb-true}
 use Rattle.params.specs.Slice.{change}
 use Rattle.status.specs.Limits.{max_files, max_rows, max_peptides, max_cells}
 use Rattle.status.specs.Checks.{every}
-use Rattle.status.specs.Status.{accepted}
+use Rattle.status.specs.Status.{accepted, status_of}
 use Rattle.rt_matrix.specs.Line.{lines}
-use Rattle.rt_matrix.specs.Columns.{EachFrom, first_of}
+use Rattle.rt_matrix.specs.Columns.{FileColumns, EachFrom, columns_of, first_of}
+use Rattle.rt_matrix.specs.declared.Alignment.{Alignment}
 use Rattle.rt_matrix.proofs.RecordColumns.{columns_long, from_less, first_written}
 use Rattle.matrix.proofs.Lists.{length_tabulate}
 use Rattle.retention_alignment.specs.Observation.{max_rts}
@@ -27,15 +28,16 @@ use Rattle.retention_alignment.specs.Call.{
   checks,
   status_by,
   status,
-  answer_of,
+  told_by,
   rows,
   records_for,
   filled,
   slices_after,
   Aligned,
 }
-use Rattle.retention_alignment.specs.declared.AlignAnswer.{AlignAnswer}
-use Rattle.retention_alignment.specs.declared.AlignAnswer.TheVariants.{Accepted, Refused}
+use Rattle.std.specs.Prelude.{⊤, Result, Ok, Err, is_err}
+use Rattle.status.specs.declared.Refusal.{Refusal}
+use Rattle.status.specs.Told.{Told, gives, only, told_for}
 use Rattle.retention_alignment.proofs.Rows.{length_rows}
 use Rattle.align_output.specs.Output.{printed_of, status_text, accepted_text}
 use Rattle.align_output.proofs.PrintedColumns.{printed_columns, printed_back}
@@ -54,24 +56,23 @@ unfolding alignments lines max_rts
 records_long i = length_tabulate _ _ ∙ length_tabulate _ _
 
 -- ---- the number in the alignment's answer
-refused_number : (s n : ℕ) → Refused n ≡ answer_of s → (eqb s accepted ≡ false) × (s ≡ n)
-unfolding answer_of
-refused_number s n h = go (eqb s accepted) refl h
+told_number : (s : ℕ) (r : Result ⊤ Refusal) → told_by r ≡ told_for s (gives tt) → status_of r ≡ s
+told_number s r h = told r ∙ ap (λ (t : Told (Unit {0})). t.status) h ∙ asked (eqb s accepted) refl
   where
-    go : (b : Bool) → eqb s accepted ≡ b → Refused n ≡ cond b Accepted (Refused s)
-        → (eqb s accepted ≡ false) × (s ≡ n)
-    go true e g = let z : ◌≡◌ {A = ℕ} 0 1 = cc in absurd (omega arith)
-    go false e g = (e, cc)
+    told : (r : Result ⊤ Refusal) → status_of r ≡ (told_by r).status
+    told (Ok x) = refl
+    told (Err e) = refl
 
-accepted_number : (s : ℕ) → Accepted ≡ answer_of s → eqb s accepted ≡ true
-unfolding answer_of
-accepted_number s h = go (eqb s accepted) refl h
-  where
-    go : (b : Bool) → eqb s accepted ≡ b → Accepted ≡ cond b Accepted (Refused s) → eqb s accepted ≡ true
-    go true e g = e
-    go false e g = let z : ◌≡◌ {A = ℕ} 0 1 = cc in absurd (omega arith)
+    asked : (b : Bool) → eqb s accepted ≡ b → (cond b (gives {A = Unit {0}} tt) (only s)).status ≡ s
+    asked true e = sym (eqb-true s accepted e)
+    asked false e = refl
 
-module _ (i : Input) (out : List ℕ) (d : Ready i out) where
+-- an answer that is no `Err` is that of an accepted call
+pub not_refused : (r : Result ⊤ Refusal) → false ≡ is_err r → status_of r ≡ accepted
+not_refused (Ok x) h = refl
+not_refused (Err e) h = let z : ◌≡◌ {A = ℕ} 0 1 = cc in absurd (omega arith)
+
+module _ (i : Input) (d : Ready i) where
   module _ (s : Slices) (room : Roomy s) where
     cells : i.peptides * i.files ≤ 1024
     cells = mul-le-mul d.peptides d.files
@@ -104,20 +105,14 @@ module _ (i : Input) (out : List ℕ) (d : Ready i out) where
     unfolding status_by columns_status
     status_is = rw (lengths_agree_lem, within, long)
 
-  module _ (s t : Slices) (r : AlignAnswer) (w : Aligned i (change s t) r) (room : Roomy s) where
-    answer_is : r ≡ answer_of (columns_status i)
-    answer_is = w.answer ∙ ap answer_of (status_is s room)
-
-    -- a refused alignment: the number, and the text of it
-    pub refused_is : (n : ℕ) → r ≡ Refused n → (n ≡ columns_status i) × (status_text n ≡ columns_text i)
-    refused_is n h =
-        let k = refused_number (columns_status i) n (sym h ∙ answer_is) in
-        (sym k.1, sym (columns_text_lem i ∙ ap (λ (b : Bool). cond b (alignment_text i) (status_text (columns_status i))) k.0 ∙ ap status_text k.1))
+  module _ (s t : Slices) (r : Result ⊤ Refusal) (w : Aligned i (change s t) r) (room : Roomy s) where
+    pub number_is : status_of r ≡ columns_status i
+    number_is = told_number (status i s) r w.told ∙ status_is s room
 
     -- ---- an accepted one
-    module _ (h : r ≡ Accepted) where
+    module _ (h : status_of r ≡ accepted) where
       passed : eqb (columns_status i) accepted ≡ true
-      passed = accepted_number (columns_status i) (sym h ∙ answer_is)
+      passed = eq-eqb (columns_status i) accepted (sym number_is ∙ h)
 
       text_is : columns_text i ≡ alignment_text i
       text_is = columns_text_lem i ∙ ap (λ (b : Bool). cond b (alignment_text i) (status_text (columns_status i))) passed
@@ -135,12 +130,30 @@ module _ (i : Input) (out : List ℕ) (d : Ready i out) where
           ∙ length_rows i.file i.peptide i.rt d.peptide d.rt
 
       -- the outputs' first cells are the records' and the rows'
-      records_are : printed_columns (first_of i.files t.records) ≡ map printed_of (records_for i)
+      cells_are : first_of i.files t.records ≡ columns_of (records_for i)
       unfolding filled
-      records_are =
-          ap (λ (x : Slices). printed_columns (first_of i.files x.records)) after_is
-          ∙ ap printed_columns (first_written i.files s.records (records_for i) (records_long i))
-          ∙ printed_back (records_for i)
+      cells_are =
+          ap (λ (x : Slices). first_of i.files x.records) after_is
+          ∙ first_written i.files s.records (records_for i) (records_long i)
+
+      -- so there is one for each file
+      counted : {A : Type 0} (get : Alignment → A) → length (map get (records_for i)) ≡ i.files
+      counted get = length-map (records_for i) get ∙ records_long i
+
+      pub max_rts_long : length (take i.files t.records.max_rt) ≡ i.files
+      max_rts_long = ap (λ (c : FileColumns). length c.max_rt) cells_are ∙ counted (λ a. a.max_rt)
+
+      pub slopes_long : length (take i.files t.records.slope) ≡ i.files
+      slopes_long = ap (λ (c : FileColumns). length c.slope) cells_are ∙ counted (λ a. a.slope)
+
+      pub intercepts_long : length (take i.files t.records.intercept) ≡ i.files
+      intercepts_long = ap (λ (c : FileColumns). length c.intercept) cells_are ∙ counted (λ a. a.intercept)
+
+      pub counts_long : length (take i.files t.records.used) ≡ i.files
+      counts_long = ap (λ (c : FileColumns). length c.used) cells_are ∙ counted (λ a. a.used)
+
+      records_are : printed_columns (first_of i.files t.records) ≡ map printed_of (records_for i)
+      records_are = ap printed_columns cells_are ∙ printed_back (records_for i)
 
       times : take (length i.file) t.aligned ≡ map (aligned (records_for i)) (rows i)
       unfolding filled
@@ -148,10 +161,7 @@ module _ (i : Input) (out : List ℕ) (d : Ready i out) where
           ap (λ (x : Slices). take (length i.file) x.aligned) after_is
           ∙ take_at (map (aligned (records_for i)) (rows i)) _ (length i.file) times_long
 
-      -- the number, and what is written of the outputs is the definition's text
-      pub accepted_is : (accepted ≡ columns_status i)
-          × (accepted_text (printed_columns (first_of i.files t.records)) (take (length i.file) t.aligned)
-          ≡ columns_text i)
+      -- what is written of the outputs is the definition's text
+      pub accepted_is : accepted_text (printed_columns (first_of i.files t.records)) (take (length i.file) t.aligned) ≡ columns_text i
       unfolding alignment_text
-      accepted_is =
-          (sym (eqb-true (columns_status i) accepted passed), ap₂ accepted_text records_are times ∙ sym text_is)
+      accepted_is = ap₂ accepted_text records_are times ∙ sym text_is

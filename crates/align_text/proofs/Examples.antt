@@ -42,7 +42,8 @@ use Rattle.align_text.specs.AlignText.{
   written_to,
   answer_of,
 }
-use Rattle.align_text.specs.declared.TextAnswer.TheVariants.{Refused}
+use Rattle.std.specs.Prelude.{Err}
+use Rattle.status.specs.declared.Refusal.TheVariants.{Malformed}
 
 -- lines, each closed by LF
 abbrev closed : List String → List ℕ
@@ -90,6 +91,6 @@ unfolding text_status_with input_status_with columns_of parse head_read rows_of 
 statuses = refl
 
 -- the answer to a malformed text is 10 also where its line does not fit
-pub malformed_unwritten : answer_of (call_status (closed ("files=+1" ∷ [])) (0 ∷ [])) (written_to (closed ("files=+1" ∷ [])) (0 ∷ [])) ≡ Refused 10 0
+pub malformed_unwritten : answer_of (call_status (closed ("files=+1" ∷ [])) (0 ∷ [])) (written_to (closed ("files=+1" ∷ [])) (0 ∷ [])) ≡ Err (record { status = Malformed; written = 0 })
 unfolding answer_of call_status text_status_with align_text_with status_text decimal_of decimal_onto parse head_read rows_of rows_from row_read decimal_line signed_line hex_line first_line keyed line_of starts_with read_decimal read_from is_digit read_signed negative non_negative read_hex_digits read_hex digit_value all_hex hex_value every
 malformed_unwritten = refl

@@ -2,7 +2,7 @@
 use mathlib.Core.Path.{◌≡◌, refl, sym, ap, ◌∙◌}
 use mathlib.Core.Bool.{Bool, true, false, cond}
 use mathlib.Core.List.{List, map}
-use mathlib.Core.Option.{Option, none, some}
+use Rattle.std.specs.Prelude.{Option, None, Some}
 use Prim.Native.Nat.{ℕ, ◌≤◌}
 use native.Mathlib.Omega.{arith}
 use lib.ListN.{length, get_or, length-map, get_or-map}
@@ -25,7 +25,8 @@ use Rattle.align_input.specs.Columns.{rt_of}
 use Rattle.align_output.specs.Output.{printed_of, status_text}
 use Rattle.align_output.specs.declared.Printed.{Printed}
 use Rattle.align_output.proofs.Lengths.{Counted, status_length, accepted_length}
-use Rattle.align_text.specs.declared.TextAnswer.{TextAnswer}
+use Rattle.std.specs.Prelude.{Result}
+use Rattle.align_text.specs.declared.Refused.{Refused}
 use Rattle.align_text.specs.AlignText.{
   max_files,
   within_limits,
@@ -82,7 +83,7 @@ module _ (i : Call.Input) (files : i.files ≤ max_files) (peptides : i.peptides
       ) in
       omega (arith, accepted_length printed t (omega (arith, e)) counted, e, f)
 
-  columns_short : length (columns_text i) ≤ longest
+  pub columns_short : length (columns_text i) ≤ longest
   unfolding columns_text
   columns_short =
       either (all_below i.files i.file) _ _ longest
@@ -107,15 +108,15 @@ input_short d =
     (status_short 2 (omega arith))
 
 answer_short : (o : Option Input) → length (answer_with max_files o) ≤ longest
-answer_short none = status_short 10 (omega arith)
-answer_short (some d) = input_short d
+answer_short None = status_short 10 (omega arith)
+answer_short (Some d) = input_short d
 
 pub text_short : (t : List ℕ) → length (align_text t) ≤ longest
 unfolding align_text_with
 text_short t = answer_short (parse t)
 
 -- an output of that length takes every answer: the call's number is the text's, and what is written is the whole text
-pub always_written : (t before : List ℕ) (r : TextAnswer) (after : List ℕ) → Answered t before r after
+pub always_written : (t before : List ℕ) (r : Result ℕ Refused) (after : List ℕ) → Answered t before r after
     → longest ≤ length before
     → (r ≡ answer_of (text_status t) (length (align_text t))) × (after ≡ overwritten (align_text t) before)
 always_written t before r after w h =

@@ -4,7 +4,7 @@
 use mathlib.Core.Path.{◌≡◌, refl, sym, ap, ◌∙◌}
 use mathlib.Core.Bool.{Bool, true, false, ◌&&◌, cond}
 use mathlib.Core.List.{List, ◌∷◌}
-use mathlib.Core.Option.{Option, none, some}
+use Rattle.std.specs.Prelude.{Option, None, Some}
 use Prim.Native.Nat.{ℕ, ◌≤◌, ◌<◌}
 use native.Mathlib.Omega.{arith}
 use lib.Dec.{leb}
@@ -88,7 +88,7 @@ pub read_as_before : (most more : ℕ) (t : List ℕ) → most ≤ more → (tex
 unfolding text_status_with align_text_with
 read_as_before most more t grown other = go (parse t) refl
   where
-    by_test : (d : Input) → parse t ≡ some d → (b : Bool) → leb d.files most ≡ b → SameAnswer most more t
+    by_test : (d : Input) → parse t ≡ Some d → (b : Bool) → leb d.files most ≡ b → SameAnswer most more t
     by_test d e true h =
         let few = leb-true d.files most h in
         record {
@@ -99,12 +99,12 @@ read_as_before most more t grown other = go (parse t) refl
     by_test d e false h = absurd (other (ap (status_with most) e ∙ past_status most d (leb-false d.files most h)))
 
     go : (o : Option Input) → parse t ≡ o → SameAnswer most more t
-    go none e =
+    go None e =
         record {
           status = ap (status_with more) e ∙ sym (ap (status_with most) e);
           text = ap (answer_with more) e ∙ sym (ap (answer_with most) e);
         }
-    go (some d) e = by_test d e (leb d.files most) refl
+    go (Some d) e = by_test d e (leb d.files most) refl
 
 -- ---- document 02's two sentences
 
@@ -120,7 +120,7 @@ accepted_before t h =
     (same.status ∙ h, same.text)
 
 -- a program of before answers 2 to a well-formed text with more files than it takes
-pub answered_before : (t : List ℕ) (d : Input) → parse t ≡ some d → files_before < d.files
+pub answered_before : (t : List ℕ) (d : Input) → parse t ≡ Some d → files_before < d.files
     → (text_status_with files_before t ≡ past_limit) × (align_text_with files_before t ≡ status_text past_limit)
 unfolding text_status_with align_text_with
 answered_before t d e many = (

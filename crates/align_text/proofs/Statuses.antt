@@ -3,7 +3,7 @@
 use mathlib.Core.Path.{◌≡◌, refl, sym, ap, ◌∙◌, subst}
 use mathlib.Core.Bool.{Bool, true, false, cond}
 use mathlib.Core.List.{List, [], ◌∷◌, ◌++◌, append-nil, flatten}
-use mathlib.Core.Option.{Option, none, some}
+use Rattle.std.specs.Prelude.{Option, None, Some}
 use Prim.Native.Nat.{ℕ}
 use native.Mathlib.Omega.{arith}
 use lib.Dec.{eqb}
@@ -61,8 +61,8 @@ input_text d = go (within_limits max_files d.files d.peptides (length d.rows))
 
 -- the alignment of what was read
 abbrev pub alignment_of : Option Input → List ℕ
-alignment_of none = []
-alignment_of (some d) = alignment_text (columns_of d)
+alignment_of None = []
+alignment_of (Some d) = alignment_text (columns_of d)
 
 -- the text of a text's answer is the line of its number, or for 0 its alignment
 pub text_by_status : (t : List ℕ) → align_text t ≡ by_status (text_status t) (alignment_of (parse t))
@@ -70,8 +70,8 @@ unfolding align_text_with text_status_with
 text_by_status t = go (parse t)
   where
     go : (o : Option Input) → answer_with max_files o ≡ by_status (status_with max_files o) (alignment_of o)
-    go none = refl
-    go (some d) = input_text d
+    go None = refl
+    go (Some d) = input_text d
 
 -- so a refused text is answered with its number
 pub refused_text : (t : List ℕ) → eqb (text_status t) accepted ≡ false
@@ -97,8 +97,8 @@ first_line_lem t = go (eqb (text_status t) accepted) refl (parse t) refl (text_b
     go : (b : Bool) → eqb (text_status t) accepted ≡ b → (o : Option Input) → parse t ≡ o
         → align_text t ≡ cond b (alignment_of o) (status_text (text_status t)) → Begins (text_status t) (align_text t)
     go false e o p h = record { rest = []; whole = h ∙ sym (append-nil (status_text (text_status t))) }
-    go true e none p h =
+    go true e None p h =
         let z : false ≡ true = ap (λ (x : Option Input). eqb (status_with max_files x) accepted) (sym p) ∙ e in
         let y : ◌≡◌ {A = ℕ} 0 1 = cc in
         absurd (omega arith)
-    go true e (some d) p h = accepted_begins (text_status t) e (columns_of d) (align_text t) h
+    go true e (Some d) p h = accepted_begins (text_status t) e (columns_of d) (align_text t) h

@@ -1,9 +1,9 @@
 -- What the align program answers to a text. Definitions only.
-use Rattle.std.specs.Prelude.{ℕ, ◌≡◌, Bool, ◌&&◌, cond, List, [], ◌∷◌, map, eqb, leb, length}
-use Rattle.std.proofs.Math.Option.{Option, none, some}
+use Rattle.std.specs.Prelude.{ℕ, ◌≡◌, Bool, ◌&&◌, cond, List, [], ◌∷◌, map, eqb, leb, length, Option, Some, None, Result, Ok, Err}
+use Rattle.std.proofs.Math.Option.{some}
 use Rattle.matrix.specs.Lists.{overwritten}
 use Rattle.status.specs.Checks.{all_below}
-use Rattle.status.specs.Status.{accepted, malformed, past_limit, too_short, bad_file, bad_peptide, first_failing}
+use Rattle.status.specs.Status.{accepted, malformed, past_limit, too_short, bad_file, bad_peptide, first_failing, number_of, refusal_by}
 use Rattle.status.specs.Told.{Told, gives, if_accepted}
 use Rattle.retention_alignment.specs.Alignments.{aligned}
 use Rattle.retention_alignment.specs.Call as Call
@@ -13,8 +13,7 @@ use Rattle.align_input.specs.Input.{Input}
 use Rattle.align_input.specs.Parse.{parse}
 use Rattle.align_input.specs.Columns.{q_of, rt_of}
 use Rattle.align_output.specs.Output.{printed_of, status_text, accepted_text}
-use Rattle.align_text.specs.declared.TextAnswer.{TextAnswer}
-use Rattle.align_text.specs.declared.TextAnswer.TheVariants.{Accepted, Refused}
+use Rattle.align_text.specs.declared.Refused.{Refused}
 
 -- the program's limits
 abbrev pub max_files : ℕ
@@ -65,8 +64,8 @@ input_text_with most d =
     (status_text past_limit)
 
 abbrev pub answer_with : (most : ℕ) → Option Input → List ℕ
-answer_with most none = status_text malformed
-answer_with most (some d) = input_text_with most d
+answer_with most None = status_text malformed
+answer_with most (Some d) = input_text_with most d
 
 -- the whole text that such a program writes for a text
 unfoldable pub align_text_with : (most : ℕ) → List ℕ → List ℕ
@@ -94,8 +93,8 @@ input_status_with most d =
     ((past_limit, within_limits most d.files d.peptides (length d.rows)) ∷ column_checks (columns_of d))
 
 abbrev pub status_with : (most : ℕ) → Option Input → ℕ
-status_with most none = malformed
-status_with most (some d) = input_status_with most d
+status_with most None = malformed
+status_with most (Some d) = input_status_with most d
 
 -- 10 comes before all
 unfoldable pub text_status_with : (most : ℕ) → List ℕ → ℕ
@@ -123,22 +122,22 @@ abbrev pub written_to : (input output : List ℕ) → ℕ
 written_to input output = cond (fits (align_text input) output) (length (align_text input)) 0
 
 -- the answer with a number, and so many bytes written
-unfoldable pub answer_of : (status written : ℕ) → TextAnswer
-answer_of s n = if_accepted s (Accepted n) (Refused s n)
+unfoldable pub answer_of : (status written : ℕ) → Result ℕ Refused
+answer_of s n = if_accepted s (Ok n) (Err (record { status = refusal_by s; written = n }))
 
 -- how many bytes an answer says were written
-abbrev pub written_in : TextAnswer → ℕ
-written_in (Accepted n) = n
-written_in (Refused s n) = n
+abbrev pub written_in : Result ℕ Refused → ℕ
+written_in (Ok n) = n
+written_in (Err r) = r.written
 
 -- what every case of an answer tells: a refused one too has a value, how many bytes were written
-abbrev pub told_by : TextAnswer → Told ℕ
-told_by (Accepted n) = gives n
-told_by (Refused s n) = record { status = s; values = some n }
+abbrev pub told_by : Result ℕ Refused → Told ℕ
+told_by (Ok n) = gives n
+told_by (Err r) = record { status = number_of r.status; values = some r.written }
 
 -- The contract: the answer, what it tells, and the whole slice after the call. An answer that does not fit leaves the
 -- slice as it was.
-pub record Answered (input before : List ℕ) (r : TextAnswer) (after : List ℕ) : Type 0 where
+pub record Answered (input before : List ℕ) (r : Result ℕ Refused) (after : List ℕ) : Type 0 where
   pub answer : r ≡ answer_of (call_status input before) (written_to input before)
   pub told : told_by r ≡ record { status = call_status input before; values = some (written_to input before) }
   pub output : after ≡ cond (fits (align_text input) before) (overwritten (align_text input) before) before

@@ -1,4 +1,3 @@
 -- What the align program answers to a text. Definitions only.
 pub mod AlignText
-pub mod Buffer
 pub mod Ready

@@ -1,10 +1,10 @@
--- What the part of the program that aligns asks: columns of one length within the program's limits, and room for the
--- answer. Definitions only.
-use Rattle.std.specs.Prelude.{ℕ, ◌≤◌, ◌≡◌, List, length}
+-- What the part of the program that aligns asks: columns of one length within the program's limits.
+-- Definitions only.
+use Rattle.std.specs.Prelude.{◌≤◌, ◌≡◌, length}
 use Rattle.retention_alignment.specs.Call as Call
 use Rattle.align_text.specs.AlignText.{max_files, max_peptides, max_rows}
 
-pub record Ready (i : Call.Input) (out : List ℕ) : Type 0 where
+pub record Ready (i : Call.Input) : Type 0 where
   pub peptide : length i.peptide ≡ length i.file
   pub label : length i.label ≡ length i.file
   pub q : length i.q ≡ length i.file
@@ -13,4 +13,3 @@ pub record Ready (i : Call.Input) (out : List ℕ) : Type 0 where
   pub files : i.files ≤ max_files
   pub peptides : i.peptides ≤ max_peptides
   pub rows : length i.file ≤ max_rows
-  pub room : 8192 ≤ length out

@@ -6,7 +6,7 @@
 
 ghost use Rattle.std.specs.Prelude.{◌≤◌};
 
-use align_text::TextAnswer;
+use align_text::Refused;
 use std::io;
 
 // What every byte of an output holds before a call: no answer has it.
@@ -14,22 +14,12 @@ const BYTE: u8 = b'*';
 
 const BYTES: usize = 128;
 
-fn number(answer: TextAnswer) -> u64 {
+// The number of an answer: 0 where the text is accepted and its answer fits.
+fn number(answer: Result<usize, Refused>) -> u64 {
     match answer {
-        TextAnswer::Accepted(_) => 0,
-        TextAnswer::Refused { status, written: _ } => status as u64,
+        Ok(_) => 0,
+        Err(refused) => refused.status.number() as u64,
     }
-}
-
-// How many bytes changed. The sum may wrap, and so asks for no bound.
-fn changed(bytes: &[u8; BYTES]) -> u64 {
-    let mut count = 0u64;
-    for i in 0..BYTES {
-        if bytes[i] != BYTE {
-            count = std::num::wrapping_add_u64(count, 1);
-        }
-    }
-    count
 }
 
 // Writes what a call answers and leaves, whose output has so many bytes.
@@ -40,7 +30,7 @@ fn text(out: &impl Print, input: &[u8], bytes: usize) -> io::Result<()>
     let answer = align_text::align_text(input, &mut output[..bytes]);
     vectors::write_token(out, number(answer))?;
     vectors::write_token(out, align_text::written(answer) as u64)?;
-    vectors::write_token(out, changed(&output))
+    vectors::write_token(out, held::changed(0, &output, BYTE))
 }
 
 // 10: a plus in a number. Its line has 10 bytes: it fits, it is a byte too long, there is no room at all.

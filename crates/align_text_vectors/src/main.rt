@@ -7,7 +7,6 @@ ghost use Rattle.std.specs.Prelude.{◌≡◌, length};
 
 use std::io;
 use std::io::Read;
-use vectors::Token;
 
 // The longest stored text: one byte more than a text may have.
 const BYTES: usize = 65537;
@@ -38,7 +37,7 @@ fn room() -> [u8; BYTES]
 
 // Answers the next text, and says whether there was one.
 fn replay(out: &impl Print, input: &mut impl Read) -> io::Result<bool> {
-    let Token::Value(length) = vectors::read_token(input)? else {
+    let Some(length) = vectors::read_token(input)? else {
         return Ok(false);
     };
     let n = length as usize;
@@ -50,13 +49,5 @@ fn replay(out: &impl Print, input: &mut impl Read) -> io::Result<bool> {
 }
 
 fn main(rt: HostRuntime) -> io::Result<()> {
-    let mut input = rt.reader();
-    let Token::Value(texts) = vectors::read_token(&mut input)? else {
-        return Ok(());
-    };
-    let mut left = texts;
-    while left > 0 && replay(&rt, &mut input)? {
-        left -= 1;
-    }
-    Ok(())
+    vectors::replay_counted(&mut rt.reader(), |input, _| replay(&rt, input))
 }

@@ -3,10 +3,11 @@
 // and the columns max_rt, slope, intercept, used, max_rt_exact, slope_exact, intercept_exact and aligned.
 #![tactic(auto)]
 
-use retention_alignment::AlignAnswer;
+ghost use Rattle.std.specs.Prelude.{◌≤◌};
+
+use retention_alignment::{FileColumns, Observations};
 use std::io;
 use std::io::Read;
-use vectors::Token;
 
 // The stored batches are within these.
 const FILES: usize = 4096;
@@ -15,17 +16,8 @@ const ROWS: usize = 1024;
 
 const CELLS: usize = 8192;
 
-// Aligns the columns, and writes what the call leaves in the slices.
-fn answer(
-    out: &impl Print,
-    file: &[u32],
-    peptide: &[u32],
-    label: &[i32],
-    q: &[f32],
-    rt: &[f32],
-    files: usize,
-    peptides: usize,
-) -> io::Result<()> {
+// Aligns the rows, and writes what the call leaves in the slices.
+fn answer(out: &impl Print, observed: Observations<'_>) -> io::Result<()> {
     let mut workspace = [0.0f64; CELLS];
     let mut max_rt = [0.0f32; FILES];
     let mut slope = [0.0f32; FILES];
@@ -35,112 +27,76 @@ fn answer(
     let mut slope_exact = [false; FILES];
     let mut intercept_exact = [false; FILES];
     let mut aligned = [0.0f32; ROWS];
-    let a = retention_alignment::global_alignment(
-        file,
-        peptide,
-        label,
-        q,
-        rt,
-        files,
-        peptides,
+    let mut columns = FileColumns {
+        max_rt: &mut max_rt,
+        slope: &mut slope,
+        intercept: &mut intercept,
+        used: &mut used,
+        max_rt_exact: &mut max_rt_exact,
+        slope_exact: &mut slope_exact,
+        intercept_exact: &mut intercept_exact,
+    };
+    let done = retention_alignment::global_alignment(
+        observed,
         &mut workspace,
-        &mut max_rt,
-        &mut slope,
-        &mut intercept,
-        &mut used,
-        &mut max_rt_exact,
-        &mut slope_exact,
-        &mut intercept_exact,
+        &mut columns,
         &mut aligned,
     );
-    match a {
-        AlignAnswer::Refused(n) => vectors::write_token(out, n as u64),
-        AlignAnswer::Accepted => {
-            vectors::write_token(out, 0)?;
-            vectors::write_first_f32s(out, &max_rt, files)?;
-            vectors::write_first_f32s(out, &slope, files)?;
-            vectors::write_first_f32s(out, &intercept, files)?;
-            vectors::write_first_u32s(out, &used, files)?;
-            vectors::write_first_bools(out, &max_rt_exact, files)?;
-            vectors::write_first_bools(out, &slope_exact, files)?;
-            vectors::write_first_bools(out, &intercept_exact, files)?;
-            vectors::write_first_f32s(out, &aligned, file.len())
-        }
+    if let Err(refusal) = done {
+        return vectors::write_token(out, u64::from(refusal.number()));
     }
+    vectors::write_token(out, 0)?;
+    held::write_records(out, &columns, observed.files)?;
+    vectors::write_first(out, &aligned, observed.file.len())
 }
 
-// Reads the columns of a batch and answers it, and says whether they were there.
-fn replay_columns(
+// Answers a batch of so many rows, and says whether its columns were there.
+fn replay_rows(
     out: &impl Print,
     input: &mut impl Read,
-    file: &mut [u32],
-    peptide: &mut [u32],
-    label: &mut [i32],
-    q: &mut [f32],
-    rt: &mut [f32],
     files: usize,
     peptides: usize,
-) -> io::Result<bool> {
-    if !vectors::read_u32s(input, file)? {
-        return Ok(false);
-    }
-    if !vectors::read_u32s(input, peptide)? {
-        return Ok(false);
-    }
-    if !vectors::read_i32s(input, label)? {
-        return Ok(false);
-    }
-    if !vectors::read_f32s(input, q)? {
-        return Ok(false);
-    }
-    if !vectors::read_f32s(input, rt)? {
-        return Ok(false);
-    }
-    answer(out, file, peptide, label, q, rt, files, peptides)?;
-    Ok(true)
-}
-
-// Answers one batch, and says whether there was one.
-fn replay(out: &impl Print, input: &mut impl Read) -> io::Result<bool> {
-    let Token::Value(files) = vectors::read_token(input)? else {
-        return Ok(false);
-    };
-    let Token::Value(peptides) = vectors::read_token(input)? else {
-        return Ok(false);
-    };
-    let Token::Value(count) = vectors::read_token(input)? else {
-        return Ok(false);
-    };
-    let rows = count as usize;
-    if rows > ROWS {
-        return Ok(false);
-    }
+    rows: usize,
+) -> io::Result<bool>
+    requires { rows ≤ ROWS }
+{
     let mut file = [0u32; ROWS];
     let mut peptide = [0u32; ROWS];
     let mut label = [0i32; ROWS];
     let mut q = [0.0f32; ROWS];
     let mut rt = [0.0f32; ROWS];
-    replay_columns(
-        out,
-        input,
-        &mut file[..rows],
-        &mut peptide[..rows],
-        &mut label[..rows],
-        &mut q[..rows],
-        &mut rt[..rows],
-        files as usize,
-        peptides as usize,
-    )
+    let there = vectors::read_all(input, &mut file[..rows])?
+        && vectors::read_all(input, &mut peptide[..rows])?
+        && vectors::read_all(input, &mut label[..rows])?
+        && vectors::read_all(input, &mut q[..rows])?
+        && vectors::read_all(input, &mut rt[..rows])?;
+    if there {
+        let observed = Observations {
+            file: &file[..rows],
+            peptide: &peptide[..rows],
+            label: &label[..rows],
+            q: &q[..rows],
+            rt: &rt[..rows],
+            files,
+            peptides,
+        };
+        answer(out, observed)?;
+    }
+    Ok(there)
+}
+
+// Answers one batch, and says whether there was one.
+fn replay(out: &impl Print, input: &mut impl Read) -> io::Result<bool> {
+    let Some(sizes) = vectors::read_tokens::<3>(input)? else {
+        return Ok(false);
+    };
+    let [files, peptides, rows] = sizes;
+    if rows > ROWS as u64 {
+        return Ok(false);
+    }
+    replay_rows(out, input, files as usize, peptides as usize, rows as usize)
 }
 
 fn main(rt: HostRuntime) -> io::Result<()> {
-    let mut input = rt.reader();
-    let Token::Value(batches) = vectors::read_token(&mut input)? else {
-        return Ok(());
-    };
-    let mut left = batches;
-    while left > 0 && replay(&rt, &mut input)? {
-        left -= 1;
-    }
-    Ok(())
+    vectors::replay_counted(&mut rt.reader(), |input, _| replay(&rt, input))
 }

@@ -30,7 +30,8 @@ use Rattle.retention_alignment.specs.Call.{status_by as align_status_by, answer_
 use Rattle.retention_alignment.specs.Call.{filled as align_filled, slices_after as align_after}
 use Rattle.model_fit.specs.Input.{Input as ModelInput, columns_agree, status_by as model_status_by}
 use Rattle.models.specs.Call.{ModelOutputs, PredictSlices, predict_status, predict_filled}
-use Rattle.models.specs.Call.{predict_outcome, predict_answer_of, predict_told, predict_outcome_told}
+use Rattle.models.specs.Call.{predict_outcome, predict_outcome_told}
+use Rattle.models.specs.Call.{answer_of as predict_answer_of, told_by as predict_told_by}
 use Rattle.run.specs.Fitted.{of_retention, of_mobility}
 use Rattle.run.specs.Call.{Input, Slices, predict_outcome_of, fits_told, answer_of, told_by, slices_after, status_by, status}
 use Rattle.run.specs.Parts.{align_input, retention_input, mobility_input}
@@ -94,7 +95,7 @@ predict_for model i s h =
           record {
             answer = refl;
             told =
-                ap (λ (n : ℕ). predict_told (predict_answer_of n p)) h
+                ap (λ (n : ℕ). predict_told_by predict_outcome_told (predict_answer_of n p)) h
                 ∙ sym (ap (λ (n : ℕ). told_for n (predict_outcome_told p)) h);
             slices = refl;
           };

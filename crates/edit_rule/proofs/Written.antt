@@ -7,6 +7,7 @@ use Prim.Native.Nat.{ℕ, ◌<◌}
 use native.Mathlib.Omega.{arith}
 use lib.Ieee.{Float}
 use lib.ListN.{length, get_or, take}
+use Rattle.std.specs.Prelude.{Ok}
 use Rattle.status.specs.Checks.{every, lengths_agree, all_below}
 use Rattle.status.proofs.Laws.{length_at}
 use Rattle.status.proofs.First.{passed_at_lem}
@@ -30,7 +31,7 @@ use Rattle.edit_rule.specs.EditsOutside.{written_by}
 pub record Wrote (s : Shown) : Type 0 where
   pub columns : ColumnsIn s.input
   pub peptide_numbers : all_below (peptides s.input) s.input.peptide ≡ true
-  pub answer : s.answer ≡ ran_of s.input
+  pub answer : s.answer ≡ Ok (ran_of s.input)
   pub held_records : FileColumns
   pub records : s.records ≡ written_over (columns_of (fitted_by s.input).records) held_records
   pub held_aligned : List Float

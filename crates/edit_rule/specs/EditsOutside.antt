@@ -1,20 +1,20 @@
 -- Demand 3, document 01's section on edits outside the training set: what is supposed of what two ends were passed, and
 -- what is claimed of what they show, whether each is one call or three. Definitions only.
-use Rattle.std.specs.Prelude.{◌≡◌, Bool, true, false, List, ℕ, ◌<◌, length, get_or, take}
+use Rattle.std.specs.Prelude.{◌≡◌, Bool, true, false, List, ℕ, ◌<◌, length, get_or, take, Result, Ok, Err}
 use Rattle.std.proofs.Math.Option.{Option, none, some}
 use Rattle.std.specs.Float.{nan}
 use Rattle.feature.specs.Feature.{Row, outside, training}
 use Rattle.edits.specs.Edits.{Edit, edited_by, touch_only, row_at}
 use Rattle.embedding.specs.Design.{order_of}
 use Rattle.rt_matrix.specs.Columns.{columns_of, first_of}
-use Rattle.regression.specs.declared.FitOutcome.{FitOutcome}
+use Rattle.regression.specs.Regression.{Outcome}
+use Rattle.status.specs.declared.Refusal.{Refusal}
 use Rattle.models.specs.Call.{ModelOutputs}
 use Rattle.models.specs.Prediction.{is_solved}
 use Rattle.run.specs.Fitted.{Part, of_retention, of_mobility, model_of, fit_of_part, result_of}
 use Rattle.run.specs.Fitted.{Predicted, RowOutcome, longest, outcome}
 use Rattle.run.specs.Call.{Input, rows, fitted_by, ran_of}
-use Rattle.run.specs.declared.RunAnswer.{RunAnswer}
-use Rattle.run.specs.declared.RunAnswer.TheVariants.{Ran, Refused}
+use Rattle.run.specs.declared.Ran.{Ran}
 use Rattle.edit_rule.specs.Ends.{Shown}
 
 -- what was written for a model: its coefficients, and the predictions and errors of all rows
@@ -23,19 +23,19 @@ written_by of_retention s = s.retention
 written_by of_mobility s = s.mobility
 
 -- whether the model fits, by what was answered; it does not with 8 and 9
-abbrev pub fits : Part → RunAnswer → Bool
-fits of_retention (Ran retention mobility) = is_solved retention.fit
-fits of_mobility (Ran retention mobility) = is_solved mobility.fit
-fits of_retention (Refused n) = false
-fits of_mobility (Refused n) = false
+abbrev pub fits : Part → Result Ran Refusal → Bool
+fits of_retention (Ok ran) = is_solved ran.retention.fit
+fits of_mobility (Ok ran) = is_solved ran.mobility.fit
+fits of_retention (Err refusal) = false
+fits of_mobility (Err refusal) = false
 
 -- the outcome of its fit, by what was answered: ridge, r2 and n, or 8 or 9. The count beside it is of all rows, those
 -- that an edit may touch too.
-abbrev pub outcome_in : Part → RunAnswer → Option FitOutcome
-outcome_in of_retention (Ran retention mobility) = some retention.fit
-outcome_in of_mobility (Ran retention mobility) = some mobility.fit
-outcome_in of_retention (Refused n) = none
-outcome_in of_mobility (Refused n) = none
+abbrev pub outcome_in : Part → Result Ran Refusal → Option Outcome
+outcome_in of_retention (Ok ran) = some ran.retention.fit
+outcome_in of_mobility (Ok ran) = some ran.mobility.fit
+outcome_in of_retention (Err refusal) = none
+outcome_in of_mobility (Err refusal) = none
 
 -- ---- what is supposed
 
@@ -101,7 +101,7 @@ pub record ByDefinition (s : Shown) : Type 0 where
   -- every file's record
   pub records : first_of s.input.files s.records ≡ columns_of (fitted_by s.input).records
   -- ridge, r2 and n of both models, or 8 or 9, and of how many rows narrowing changed the prediction
-  pub answer : s.answer ≡ ran_of s.input
+  pub answer : s.answer ≡ Ok (ran_of s.input)
   -- the coefficients of either model that fits
   pub coefficients : (part : Part) → fits part s.answer ≡ true
       → take (order_of (model_of part)) (written_by part s).coefficients

@@ -1,20 +1,19 @@
 -- The two ends of a list of edits, which alone are run: an end is one call of `run`, or its three parts called one by
 -- one; and what an end shows. Definitions only.
-use Rattle.std.specs.Prelude.{◌≡◌, List, ℕ, Float, length, take}
+use Rattle.std.specs.Prelude.{◌≡◌, List, ℕ, Float, length, take, Result, Ok, Err}
 use Rattle.params.specs.Slice.{Change, change}
 use Rattle.status.specs.Status.{accepted}
+use Rattle.status.specs.declared.Refusal.{Refusal}
 use Rattle.rt_matrix.specs.Columns.{FileColumns}
 use Rattle.retention_alignment.specs.Call.{Aligned, status as align_status}
 use Rattle.embedding.specs.declared.Model.{Model}
 use Rattle.embedding.specs.declared.Model.TheVariants.{Retention, Mobility}
 use Rattle.model_fit.specs.Input.{Input as ModelInput}
 use Rattle.models.specs.Call.{ModelOutputs, PredictCall, predict_status}
-use Rattle.models.specs.declared.PredictAnswer.{PredictAnswer}
-use Rattle.models.specs.declared.PredictAnswer.TheVariants.{Predicted, Refused as Unpredicted}
+use Rattle.models.specs.declared.PredictOutcome.{PredictOutcome}
 use Rattle.run.specs.Call.{Input, RunCall, status}
 use Rattle.run.specs.Parts.{align_input, retention_input, mobility_input}
-use Rattle.run.specs.declared.RunAnswer.{RunAnswer}
-use Rattle.run.specs.declared.RunAnswer.TheVariants.{Ran, Refused}
+use Rattle.run.specs.declared.Ran.{Ran}
 
 -- ---- an accepted call
 
@@ -61,17 +60,17 @@ pub data End : Type 0 where
 -- what was passed, what was answered, and every output; the workspaces are not shown
 pub record Shown : Type 0 where
   pub input : Input
-  pub answer : RunAnswer
+  pub answer : Result Ran Refusal
   pub records : FileColumns
   pub aligned : List Float
   pub retention : ModelOutputs
   pub mobility : ModelOutputs
 
 -- the answers to two predictions, as a run answers them
-abbrev pub answers_of : (retention mobility : PredictAnswer) → RunAnswer
-answers_of (Predicted retention) (Predicted mobility) = Ran retention mobility
-answers_of (Predicted retention) (Unpredicted n) = Refused n
-answers_of (Unpredicted n) mobility = Refused n
+abbrev pub answers_of : (retention mobility : Result PredictOutcome Refusal) → Result Ran Refusal
+answers_of (Ok retention) (Ok mobility) = Ok (record { retention = retention; mobility = mobility })
+answers_of (Ok retention) (Err refusal) = Err refusal
+answers_of (Err refusal) mobility = Err refusal
 
 abbrev pub shown : End → Shown
 shown (of_run e) =

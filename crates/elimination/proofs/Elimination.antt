@@ -1,15 +1,18 @@
 -- One step of each definition of the elimination that a loop walks.
 use mathlib.Core.Path.{◌≡◌, refl, sym, ap, ◌∙◌}
 use mathlib.Core.List.{List, [], ◌∷◌, map}
-use mathlib.Core.Bool.{Bool, true, false, not, ◌&&◌, true≢false, false≢true}
+use mathlib.Core.Bool.{Bool, true, false, cond, not, ◌&&◌, true≢false, false≢true}
 use Prim.Native.Nat.{ℕ, suc, ◌+◌, ◌≤◌, ◌<◌}
+use native.Mathlib.Numerals.{add-one}
 use native.Mathlib.Omega.{arith}
-use lib.ListN.{length, get_or, take, drop, length-drop, length-map}
+use lib.ListN.{length, take, drop, length-drop, length-map}
 use lib.Seq.{drop-cons}
-use lib.Dec.{eqb}
-use borrow.Author.Tests.{not-true, not-false}
-use lib.Ieee.{Float, nan, eq, le}
+use lib.Dec.{eqb, ltb}
+use borrow.Author.Tests.{not-true, not-false, ltb-true, ltb-false}
+use lib.Ieee.{Float, eq, le}
 use Rattle.float.specs.Number.{zero64}
+use Rattle.std.specs.Prelude.{Option, Some, None, position}
+use Rattle.std.specs.List.{list_all, enumerate_from, position_or_len}
 use Rattle.elimination.specs.Rows.{row_of}
 use Rattle.elimination.specs.Elimination.{
   cell,
@@ -38,26 +41,41 @@ if_false false x y e = refl
 
 -- ---- the zeros before a row's first other cell
 
-module _ (row : List Float) (j : ℕ) (h : j < length row) where
-  pub zeros_more : eq (get_or row j nan) zero64 ≡ true
-      → leading_zeros (drop j row) ≡ suc (leading_zeros (drop (suc j) row))
-  unfolding leading_zeros
-  zeros_more e =
-      rw (drop-cons row j nan h) (if_true (eq (get_or row j nan) zero64) (suc (leading_zeros (drop (suc j) row))) 0 e)
-
-  pub zeros_end : eq (get_or row j nan) zero64 ≡ false → leading_zeros (drop j row) ≡ 0
-  unfolding leading_zeros
-  zeros_end e =
-      rw (drop-cons row j nan h) (if_false (eq (get_or row j nan) zero64) (suc (leading_zeros (drop (suc j) row))) 0 e)
-
-zeros_step : (b : Bool) (n m : ℕ) → n ≤ m → (elim b as (λ t. ℕ) [ true ↦ suc n | false ↦ 0 ]) ≤ suc m
-zeros_step true n m h = omega arith
-zeros_step false n m h = omega arith
-
-pub zeros_within : (row : List Float) → leading_zeros row ≤ length row
+-- the first cell that is not zero, by its place
+pub found_place : (row : List Float) → position_or_len (λ x. not (eq x zero64)) row ≡ leading_zeros row
 unfolding leading_zeros
-zeros_within [] = omega arith
-zeros_within (x ∷ row) = zeros_step (eq x zero64) (leading_zeros row) (length row) (zeros_within row)
+found_place [] = refl
+found_place (x ∷ row) = step (eq x zero64) _ _ (found_place row)
+  where
+    step : (b : Bool) (n m : ℕ) → n ≡ m
+        → cond (not (not b)) (1 + n) 0 ≡ (elim b as (λ t. ℕ) [ true ↦ suc m | false ↦ 0 ])
+    step true n m e = omega arith
+    step false n m e = refl
+
+at_place : (b : Bool) (p j : ℕ) → cond b (Some p) None ≡ Some j → (b ≡ true) × (p ≡ j)
+at_place true p j e = (refl, ap (λ (o : Option ℕ). elim o [ None ↦ p | Some z ↦ z ]) e)
+at_place false p j e = absurd (no e)
+  where
+    no : {A : Type 0} {x : A} → None ≡ Some x → ⊥
+    no e = cc
+
+no_place : (b : Bool) (p : ℕ) → cond b (Some p) None ≡ None → b ≡ false
+no_place true p e = absurd (no e)
+  where
+    no : {A : Type 0} {x : A} → Some x ≡ None → ⊥
+    no e = cc
+no_place false p e = refl
+
+pub first_found : (row : List Float) (j : ℕ) → position (λ x. not (eq x zero64)) row ≡ Some j
+    → (j ≡ leading_zeros row) × (j < length row)
+first_found row j e =
+    let f = at_place (ltb (position_or_len (λ x. not (eq x zero64)) row) (length row)) _ j e in
+    (sym f.1 ∙ found_place row, omega (arith, f.1, ltb-true _ _ f.0))
+
+pub first_none : (row : List Float) → position (λ x. not (eq x zero64)) row ≡ None → length row ≤ leading_zeros row
+first_none row e =
+    let f = no_place (ltb (position_or_len (λ x. not (eq x zero64)) row) (length row)) _ e in
+    omega (arith, found_place row, ltb-false _ _ f)
 
 -- ---- the search for a pivot row
 
@@ -119,11 +137,13 @@ module _ (left k h : ℕ) (rows : List (List Float)) where
 
 -- ---- the test of the left side, cell by cell and row by row
 
-pub row_solved_cell : (i j : ℕ) (row : List Float) → j < length row
-    → row_solved i j (drop j row)
-    ≡ (cell_solved (eqb i j) (get_or row j nan) && row_solved i (suc j) (drop (suc j) row))
+pub row_solved_all : (i j : ℕ) (row : List Float)
+    → list_all (λ p. cell_solved (eqb i p.0) p.1) (enumerate_from j row) ≡ row_solved i j row
 unfolding row_solved
-row_solved_cell i j row h = rw (drop-cons row j nan h) refl
+row_solved_all i j [] = refl
+row_solved_all i j (x ∷ row) =
+    ap (λ b. cell_solved (eqb i j) x && b)
+    (row_solved_all i (j + 1) row ∙ ap (λ (k : ℕ). row_solved i k row) (add-one j))
 
 pub left_solved_row : (n i : ℕ) (rows : List (List Float)) → i < length rows
     → solved_from n i (drop i rows)

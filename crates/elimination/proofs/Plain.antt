@@ -7,11 +7,12 @@ use native.Mathlib.Nat.{not-suc-le-zero, le_of_suc-le-suc}
 use native.Mathlib.Omega.{arith}
 use lib.ListN.{length, get_or, set, take, drop, take-append-drop}
 use lib.Seq.{get_or-take, get_or-set_same, get_or-set_other}
-use lib.Dec.{ltb}
-use lib.Ieee.{Float, nan, binary64, mul, div, eq}
+use lib.Dec.{T, ltb}
+use lib.Ieee.{Float, nan, binary64, fits, mul, div, eq}
 use lib.Ieee.Fits.{mul-fits}
 use Rattle.float.specs.Number.{zero64}
-use Rattle.float.specs.Value.{is_finite, is_zero, Sum}
+use Rattle.std.specs.List.{list_all}
+use Rattle.float.specs.Value.{is_finite, is_zero, not_minus_zero, Sum}
 use Rattle.float.proofs.Zeros.{sub_next, sub_product, is_zero_lem}
 use borrow.Author.Count.{below_more}
 use Rattle.matrix.specs.Lists.{zipped}
@@ -117,6 +118,22 @@ cleared_plain m n i flags rows p r h f k l = go (ltb j n)
     go false = p r h f k l
 
 -- ---- the flags
+
+both_first : (a b : Bool) → a && b ≡ true → a ≡ true
+both_first true b e = refl
+both_first false b e = absurd (false≢true e)
+
+both_rest : (a b : Bool) → a && b ≡ true → b ≡ true
+both_rest true b e = e
+both_rest false b e = absurd (false≢true e)
+
+-- each cell of a row is a value of the format, and passed the test
+pub all_plain : (row : List Float) → ((k : ℕ) → T (fits binary64 (cell k row)))
+    → list_all not_minus_zero row ≡ true → Plain (length row) row
+all_plain [] held e k h = absurd (not-suc-le-zero h)
+all_plain (x ∷ row) held e zero h = record { held = held 0; plain = both_first (not_minus_zero x) _ e }
+all_plain (x ∷ row) held e (suc k) h =
+    all_plain row (λ j. held (suc j)) (both_rest (not_minus_zero x) _ e) k (le_of_suc-le-suc h)
 
 -- of one row more
 pub flag_set : (i n : ℕ) (flags : List Bool) (rows : List (List Float)) (b : Bool) → i < length flags

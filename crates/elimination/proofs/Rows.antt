@@ -1,19 +1,25 @@
 -- Rows of a matrix that are replaced: each in a turn of a loop, the first ones, or the later ones. For any cells.
 use mathlib.Core.Path.{◌≡◌, refl, sym, ap, ◌∙◌}
-use mathlib.Core.List.{List, [], ◌∷◌, ◌++◌}
+use mathlib.Core.List.{List, [], ◌∷◌, ◌++◌, map}
 use Prim.Native.Nat.{ℕ, zero, suc, ◌+◌, ◌-◌, ◌*◌, ◌≤◌, ◌<◌}
 use native.Mathlib.Nat.{add-sub_cancel_left, le_refl, le_of_eq, le_of_suc-le-suc, not-suc-le-zero}
 use native.Mathlib.Nat.{mul-le-mul_right, suc-mul}
 use native.Mathlib.Numerals.{add-one}
 use native.Mathlib.Omega.{arith}
-use lib.ListN.{length, take, drop, set}
+use lib.ListN.{length, get_or, take, drop, set, length-map}
 use lib.Seq.{length-take-le, take-take}
+use denote.Ref.{MutBor}
+use denote.Param.Members.{Shared}
+use Rattle.std.specs.Fork.{ChangesEach}
+use Rattle.std.proofs.lemmas.List.{ext_get_or, get_or_default, get_or-map}
 use Rattle.matrix.specs.Rows.{rows_of}
 use borrow.Rule.Slice.PartMut.{same_len_mid}
 use Rattle.matrix.proofs.Laws.{
   put,
   row_end,
   row_rows_of,
+  length_rows_of,
+  length_row_at,
   rows_of_put_row,
   rows_of_append_add,
   rows_of_take,
@@ -98,10 +104,19 @@ module _ {A : Type 0} (m : ℕ) (rows : List A → List (List A)) (start wide : 
 -- ---- a row that is lent to be read
 
 module _ {A : Type 0} (w n i a : ℕ) (cells : List A) (h : i < n) (l : length cells ≡ n * w) (e : a ≡ i * w) where
-  lent_length : length (take (a + w - a) (drop a cells)) ≡ w
+  pub lent_length : length (take (a + w - a) (drop a cells)) ≡ w
   lent_length =
       let v : a + w - a ≡ w = add-sub_cancel_left a w in
       part_length a (a + w - a) cells (omega (arith, row_end w n i h)) ∙ v
+
+  -- it is row i
+  pub lent_row : take (a + w - a) (drop a cells) ≡ row_of (rows_of w n cells) i
+  lent_row = rw (add-sub_cancel_left, e) (sym (row_rows_of w n i cells h))
+
+  -- it comes back as r
+  pub lent_back : (r : List A) → length r ≡ w
+      → rows_of w n (take a cells ++ (r ++ drop (a + w - a) (drop a cells))) ≡ set (rows_of w n cells) i r
+  lent_back r k = rw (add-sub_cancel_left, e) (rows_of_put_row w n i r cells h (le_of_eq (sym l)) k)
 
   -- the front of a copy of it is row i
   pub copied_row : (copy : List A)
@@ -123,6 +138,31 @@ pub front_rows : {A : Type 0} (w n i a : ℕ) (cells : List A) → i ≤ n → a
     → rows_of w i (take a cells) ≡ take i (rows_of w n cells)
 front_rows w n i a cells h e = rows_of_take w i a cells (omega arith) ∙ sym (take_rows_of w n i cells h)
 
+-- a row of the matrix, as a call takes it, is w cells long
+pub row_length : {A : Type 0} (w n i : ℕ) (cells p : List A) → length cells ≡ n * w → i < length (rows_of w n cells)
+    → p ≡ get_or (rows_of w n cells) i p → length p ≡ w
+row_length w n i cells p l h e =
+    let t : i < n = rw length_rows_of at h in
+    ap length (e ∙ get_or_default (rows_of w n cells) i p [] h ∙ row_rows_of w n i cells t)
+    ∙ length_row_at w n i cells t (le_of_eq (sym l))
+
+-- where each call left g of its row
+pub rows_changed : {A F : Type 0}
+    {f : Shared F (ℕ × (MutBor (List A) × Unit {0})) (Unit {0} × (MutBor (List A) × Unit {0}))} {x : F}
+    (w n : ℕ) (g : List A → List A) (cells new : List A)
+    → ChangesEach f x (rows_of w n cells) (rows_of w n new)
+    → ((i : ℕ) (p q : MutBor (List A)) → f.post x (i, (p, tt)) (tt, (q, tt)) → q.now ≡ g p.now)
+    → rows_of w n new ≡ map g (rows_of w n cells)
+rows_changed {A = A} w n g cells new each makes =
+    let rows : List (List A) = rows_of w n cells in
+    let many : length (rows_of w n new) ≡ length (map g rows) =
+    length_rows_of w n new ∙ sym (length-map rows g ∙ length_rows_of w n cells) in
+    ext_get_or [] (rows_of w n new) (map g rows) many
+    (λ i h.
+    let k : i < length rows = omega (arith, h, length_rows_of w n new, length_rows_of w n cells) in
+    let at = (each i [] k).1 in
+    sym at.left ∙ makes i at.argument at.after_call at.call ∙ ap g at.argument_is ∙ sym (get_or-map g rows i [] [] k))
+
 -- ---- rows of one width
 
 flat_layout : {A : Type 0} (w m : ℕ) → Layout {A = A} m (rows_of w m) (λ i. i * w) (λ i. w)
@@ -139,18 +179,6 @@ pub row_turn : {A : Type 0} (g : ℕ → List A → List A) (rows : List (List A
     → length xs ≡ m * w → a ≡ i * w → k ≡ w → length r ≡ w → r ≡ g i (take k (drop a xs))
     → rows_of w m (take a xs ++ (r ++ drop k (drop a xs))) ≡ made g (suc i) rows
 row_turn g rows i m w = turn_row m (rows_of w m) (λ n. n * w) (λ n. w) (flat_layout w m) g rows i
-
-abbrev pub RowsMade : {A : Type 0} → (w m : ℕ) → (ℕ → List A → List A) → (xs₀ xs : List A)
-    → (at i : ℕ) → Type 0
-RowsMade w m g xs₀ xs at i = MadeIn m (rows_of w m) (λ n. n * w) g xs₀ xs at i
-
-abbrev pub Turn : {A : Type 0} → (w m : ℕ) → (ℕ → List A → List A) → (xs₀ xs : List A) → (at i : ℕ) → Type 0
-Turn w m g xs₀ xs at i = TurnIn m (rows_of w m) (λ n. n * w) g xs₀ xs at w i
-
-pub turn : {A : Type 0} (w m : ℕ) (g : ℕ → List A → List A) (xs₀ xs : List A) (at i : ℕ)
-    → RowsMade w m g xs₀ xs at i → i < m → length xs₀ ≡ m * w → Turn w m g xs₀ xs at i
-turn w m g xs₀ xs at i inv h whole =
-    turn_in m (rows_of w m) (λ n. n * w) (λ n. w) (flat_layout w m) g xs₀ xs at w i inv h whole refl
 
 module _ {A : Type 0} (w n i : ℕ) (cells part : List A) (h : i ≤ n) where
   -- the rows from row i on replaced

@@ -1,31 +1,17 @@
-// Cells copied, with the one NaN too.
+// Cells copied.
 ghost use Rattle.std.specs.Prelude.{◌≡◌, ◌≤◌, length, take};
 ghost use Rattle.elimination.specs.Rows.{max_width};
 
 // The cells of the widest row, left and right.
 pub(crate) const MAX_WIDTH: usize = status::MAX_ORDER + status::MAX_COLUMNS;
 
-// `dst` becomes `src`.
-pub(crate) fn copy(dst: &mut [f64], src: &[f64])
-    requires { length dst.old ≡ length src.now }
-    ensures { dst.new ≡ src.now }
-{
-    let mut j = 0;
-    while j < dst.len() {
-        dst[j] = src[j];
-        j += 1;
-    }
-}
-
-// `dst` becomes `src`, with the one NaN for any NaN.
+// `dst` becomes `src`, with the one NaN for any NaN. By index: after a zip with `iter_mut` a proof knows no cell.
 pub(crate) fn copy_canonical(dst: &mut [f64], src: &[f64])
     requires { length dst.old ≡ length src.now }
     ensures { dst.new ≡ src.now }
 {
-    let mut j = 0;
-    while j < dst.len() {
+    for j in 0..dst.len() {
         dst[j] = float::canonical64(src[j]);
-        j += 1;
     }
 }
 
@@ -43,6 +29,6 @@ pub(crate) fn row_copy(row: &[f64]) -> [f64; MAX_WIDTH]
 {
     let w = row.len();
     let mut own = blank_row();
-    copy(&mut own[..w], row);
+    own[..w].copy_from_slice(row);
     own
 }

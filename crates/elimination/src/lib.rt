@@ -11,8 +11,11 @@ mod cells;
 mod echelon;
 mod reduced;
 mod row;
+mod size;
 mod system;
+mod walk;
 
+use crate::size::Size;
 pub use system::{augment, right_side};
 
 // One try on the rows [left | right] of n + c cells each: adds the ridge `eps` to the left diagonal, eliminates, and
@@ -21,10 +24,10 @@ pub fn solve_inner(cells: &mut [f64], n: usize, c: usize, eps: f64) -> bool
     requires { Shape n (n + c) cells.old }
     ensures { Tried n c eps cells.old cells.new result }
 {
-    let w = n + c;
-    echelon::fill_zero(cells, n, w, eps);
-    echelon::echelon(cells, n, w);
-    reduced::reduce(cells, n, w);
-    reduced::backfill(cells, n, w);
-    reduced::left_solved(&cells[..], n, w)
+    let size = Size { n, w: n + c };
+    echelon::fill_zero(cells, size, eps);
+    echelon::echelon(cells, size);
+    reduced::reduce(cells, size);
+    reduced::backfill(cells, size);
+    reduced::left_solved(&cells[..], size)
 }

@@ -1,26 +1,26 @@
 // Operations on one row.
-ghost use Rattle.std.specs.Prelude.{◌≡◌, map, true, not, ◌&&◌, ◌≤◌, ◌<◌, length};
+ghost use Rattle.std.specs.Prelude.{◌≡◌, map, position, true, not, ◌&&◌, ◌≤◌, ◌<◌, length};
+ghost use Rattle.std.specs.Float.Ieee.{eq};
+ghost use Rattle.float.specs.Number.{zero64};
 ghost use Rattle.float.specs.Value.{is_finite, not_minus_zero};
 ghost use Rattle.matrix.specs.Lists.{zipped};
 ghost use Rattle.elimination.specs.Elimination.{
   less_scaled,
   divided_by,
-  leading_zeros,
   cleared,
   divided,
   less_multiple,
 };
 ghost use Rattle.elimination.specs.Plain.{Plain, Zeros};
 
-// Subtracts `factor` times `src` from `dst`, cell by cell, each product and each difference rounded once.
+// Subtracts `factor` times `src` from `dst`, cell by cell, each product and each difference rounded once. By index:
+// after a zip with `iter_mut` a proof knows no cell.
 pub(crate) fn subtract_scaled(dst: &mut [f64], src: &[f64], factor: f64)
     requires { length dst.old ≤ length src.now }
     ensures { dst.new ≡ zipped (less_scaled factor) dst.old src.now }
 {
-    let mut j = 0;
-    while j < dst.len() {
-        dst[j] = dst[j] - src[j] * factor;
-        j += 1;
+    for j in 0..dst.len() {
+        dst[j] -= src[j] * factor;
     }
 }
 
@@ -28,26 +28,16 @@ pub(crate) fn subtract_scaled(dst: &mut [f64], src: &[f64], factor: f64)
 fn divide(dst: &mut [f64], x: f64)
     ensures { dst.new ≡ map (divided_by x) dst.old }
 {
-    let mut j = 0;
-    while j < dst.len() {
-        dst[j] = dst[j] / x;
-        j += 1;
+    for cell in dst.iter_mut() {
+        *cell /= x;
     }
 }
 
-// The place of the first cell that is not zero, the length where there is none. A NaN is not zero.
-pub(crate) fn first_nonzero(row: &[f64]) -> usize
-    ensures { result ≡ leading_zeros row.now }
+// The place of the first cell that is not zero. A NaN is not zero.
+pub(crate) fn first_nonzero(row: &[f64]) -> Option<usize>
+    ensures { result ≡ position (λ x. not (eq x zero64)) row.now }
 {
-    let mut j = 0;
-    while j < row.len() {
-        if row[j] == 0.0 {
-            j += 1;
-        } else {
-            return j;
-        }
-    }
-    j
+    row.iter().position(|x| *x != 0.0)
 }
 
 // Clears column k of a row below the pivot row; cells left of k stay.
@@ -66,8 +56,7 @@ pub(crate) fn divide_row(row: &mut [f64], n: usize)
     requires { n ≤ length row.old }
     ensures { row.new ≡ divided n row.old }
 {
-    let j = first_nonzero(&row[..n]);
-    if j < n {
+    if let Some(j) = first_nonzero(&row[..n]) {
         let x = row[j];
         divide(&mut row[j..], x);
     }
@@ -77,24 +66,14 @@ pub(crate) fn divide_row(row: &mut [f64], n: usize)
 fn is_minus_zero(x: f64) -> bool
     ensures { result ≡ not (not_minus_zero x) }
 {
-    if x == 0.0 {
-        return float::bits64(x) != 0;
-    }
-    false
+    x == 0.0 && float::bits64(x) != 0
 }
 
 // Whether no cell is -0.0.
 pub(crate) fn is_plain(row: &[f64]) -> bool
     ensures { result ≡ true → Plain (length row.now) row.now }
 {
-    let mut j = 0;
-    while j < row.len() {
-        if is_minus_zero(row[j]) {
-            return false;
-        }
-        j += 1;
-    }
-    true
+    row.iter().all(|x| !is_minus_zero(*x))
 }
 
 // Whether `factor` times zeros, subtracted from cells, leaves them as they are: a finite factor gives zeros, which
@@ -102,10 +81,7 @@ pub(crate) fn is_plain(row: &[f64]) -> bool
 fn keeps_cells(plain: bool, factor: f64) -> bool
     ensures { result ≡ (plain && is_finite factor) }
 {
-    if plain {
-        return float::is_finite64(factor);
-    }
-    false
+    plain && float::is_finite64(factor)
 }
 
 // Subtracts from a row the multiple of `by` that clears column j, the first cell of `by` that is not zero. `plain`

@@ -1,4 +1,4 @@
--- Laws of listing the cells of a row that are not zero: one cell, two blocks end to end, the first block.
+-- Laws of listing the cells of a row that are not zero: one cell, two blocks end to end, how many cells a block has.
 use mathlib.Core.Path.{◌≡◌, refl, sym, ap, ◌∙◌, subst}
 use mathlib.Core.Bool.{Bool, true, false}
 use mathlib.Core.List.{List, [], ◌∷◌, ◌++◌, map, append_assoc, append-nil}
@@ -9,10 +9,10 @@ use lib.Ieee.{Float, nan}
 use lib.ListN.{length, take, set, get_or, length-append}
 use lib.Seq.{take-suc, take-set-le, take-suc-set, length-take-le}
 use Rattle.float.specs.Value.{is_zero}
-use Rattle.matrix.specs.Nonzero.{nonzeros, nonzero_cells, Nonzeros}
+use Rattle.matrix.specs.Nonzero.{nonzeros, nonzero_cells}
 use Rattle.matrix.proofs.Nonzero.{nonzeros_append, cells_append}
 use Rattle.float.specs.Number.{number}
-use Rattle.embedding.specs.Design.{everywhere, chosen, column_counts, counts, block}
+use Rattle.embedding.specs.Design.{everywhere, chosen, column_counts, counts, block, share}
 use Rattle.embedding.specs.Listing.{Appended}
 use Rattle.embedding.proofs.Positions.{chosen_everywhere}
 
@@ -41,11 +41,14 @@ cell_skipped x at n places values z = record {
 
 -- ---- no block, and two end to end
 
-pub none_listed : (at : ℕ) (places places₁ : List ℕ) (values values₁ : List Float)
-    → Appended at [] 0 0 places places₁ values values₁
+pub none_listed : (at n : ℕ) (places : List ℕ) (values : List Float) → Appended at [] n n places places values values
 unfolding nonzeros nonzero_cells
-none_listed at places places₁ values values₁ =
-    record { few = omega arith; count = refl; places_are = refl; values_are = refl }
+none_listed at n places values = record {
+  few = omega arith;
+  count = omega arith;
+  places_are = sym (append-nil (take n places));
+  values_are = sym (append-nil (take n values));
+}
 
 pub both_listed : {at j n m r : ℕ} {xs ys : List Float} {p₀ p₁ p₂ : List ℕ} {v₀ v₁ v₂ : List Float}
     → Appended at xs n m p₀ p₁ v₀ v₁ → j ≡ at + length xs → Appended j ys m r p₁ p₂ v₁ v₂
@@ -90,11 +93,12 @@ pub all_counted : {cells : List Float} (letters : List ℕ) → cells ≡ map nu
 unfolding block counts
 all_counted letters e = e ∙ ap (λ (l : List ℕ). map number (column_counts l)) (sym (chosen_everywhere letters))
 
--- one cell more of a row
-pub next_listed : {k n r : ℕ} {p₀ p₁ p₂ : List ℕ} {v₀ v₁ v₂ : List Float} (cells : List Float) → k < length cells
-    → Appended 0 (take k cells) 0 n p₀ p₁ v₀ v₁ → Appended k (get_or cells k nan ∷ []) n r p₁ p₂ v₁ v₂
-    → Appended 0 (take (k + 1) cells) 0 r p₀ p₂ v₀ v₂
-next_listed {k} cells h a b =
+-- one cell more of a block
+pub next_listed : {at k n m r : ℕ} {p₀ p₁ p₂ : List ℕ} {v₀ v₁ v₂ : List Float} (cells : List Float) → k < length cells
+    → Appended at (take k cells) n m p₀ p₁ v₀ v₁
+    → Appended (at + k) (get_or cells k nan ∷ []) m r p₁ p₂ v₁ v₂
+    → Appended at (take (k + 1) cells) n r p₀ p₂ v₀ v₂
+next_listed {k = k} cells h a b =
     listed_as (sym (take-suc cells k nan h) ∙ ap (λ (m : ℕ). take m cells) (sym (add-one k)))
     (both_listed a (omega (arith, length-take-le k cells (omega arith))) b)
 
@@ -104,8 +108,11 @@ pub length_counted : (letters : List ℕ) → length (map number (column_counts 
 unfolding column_counts
 length_counted letters = refl
 
--- ---- a block that is the first that is listed
+-- a peptide's counts and their shares
+abbrev pub composition : List ℕ → List Float
+composition letters =
+    let cs = column_counts letters in map number cs ++ map (share (length letters)) cs
 
-pub block_listed : {at r : ℕ} {cells : List Float} {p₀ p₁ : List ℕ} {v₀ v₁ : List Float}
-    → Appended at cells 0 r p₀ p₁ v₀ v₁ → Nonzeros at cells (take r p₁) (take r v₁)
-block_listed a = record { places_are = a.places_are; values_are = a.values_are }
+pub length_composition : (letters : List ℕ) → length (composition letters) ≡ 44
+unfolding column_counts
+length_composition letters = refl

@@ -2,7 +2,7 @@
 -- counters: the counters at a class's numbers add up to the letters in the class, and do so in floats.
 use mathlib.Core.Path.{◌≡◌, refl, sym, ap, ◌∙◌}
 use mathlib.Core.Bool.{Bool, true, ◌&&◌}
-use mathlib.Core.List.{List, [], ◌∷◌, ◌++◌, map}
+use mathlib.Core.List.{List, [], ◌∷◌, map}
 use Prim.Native.Nat.{ℕ, ◌+◌, ◌^◌, ◌≤◌, ◌<◌}
 use native.Mathlib.Nat.{add-zero, zero-add}
 use native.Mathlib.Omega.{arith}
@@ -18,6 +18,7 @@ use Rattle.embedding.specs.Design.{column_counts}
 use Rattle.embedding.specs.Classes.{class_counts, class_sum, class_sums, class_number, classes}
 use Rattle.embedding.proofs.Counting.{how_many_le, how_many_map, tally_cells, total_tally, distinct}
 use Rattle.embedding.proofs.Rows.{none}
+use Rattle.embedding.proofs.Appending.{length_composition, length_counted}
 
 -- the sum of cells that hold whole numbers, from a whole number on
 sum_cells : (cs : List ℕ) (a : ℕ) (ks : List ℕ) → a + total (map (λ k. get_or cs k 0) ks) ≤ 2 ^ 53
@@ -70,9 +71,9 @@ pub length_class_counts : (letters : List ℕ) → length (class_counts letters)
 unfolding class_counts
 length_class_counts letters = refl
 
--- what came back from writing the class counts
-pub classes_written : (letters : List ℕ) (cells rest back : List Float) → length letters < 2 ^ 32
-    → back ≡ class_sums cells ++ rest → cells ≡ map number (column_counts letters)
-    → back ≡ map number (class_counts letters) ++ rest
-classes_written letters cells rest back l e h =
-    e ∙ ap (λ (t : List Float). t ++ rest) (ap class_sums h ∙ class_sums_lem letters l)
+pub length_class_sums : (cells : List Float) → length (class_sums cells) ≡ 6
+unfolding class_sums
+length_class_sums cells = refl
+
+-- how many cells the blocks of a row have
+pub ruleset block_lengths = (length_composition, length_counted, length_class_sums)

@@ -1,9 +1,10 @@
 -- Laws of the counts of at most two letters: which columns they have, the smaller first.
-use mathlib.Core.Path.{◌≡◌, refl, sym, ap, ◌∙◌, subst}
+use mathlib.Core.Path.{◌≡◌, refl, sym, ap, ap₂, ◌∙◌, subst}
 use mathlib.Core.Bool.{false}
-use mathlib.Core.List.{List, [], ◌∷◌, ◌++◌, map}
-use Prim.Native.Nat.{ℕ, zero, suc, ◌+◌, ◌<◌}
+use mathlib.Core.List.{List, [], ◌∷◌, ◌++◌, map, append_assoc}
+use Prim.Native.Nat.{ℕ, zero, suc, ◌+◌, ◌<◌, min, max}
 use native.Mathlib.Nat.{le_of_suc-le-suc, not-suc-le-zero}
+use native.Mathlib.Decide.{dec_lt}
 use native.Mathlib.Omega.{arith}
 use lib.Dec.{lit<, lit≤}
 use lib.Ieee.{Float}
@@ -136,43 +137,44 @@ one_letter (x ∷ []) at a e c =
     (ap (λ (k : ℕ). tallied (range 0 22) (k ∷ [])) (sym c) ∙ one_tallied a h) (one_cell at 22 a 1 h one_some)
 one_letter (x ∷ y ∷ part) at a e c = absurd (omega arith)
 
-module _ (part : List ℕ) (at a b : ℕ) (e : length part ≡ 2) (c : a ≡ column_of (get_or part 0 0))
-    (d : b ≡ column_of (get_or part 1 0)) where
-  counts_are : column_counts part ≡ tallied (range 0 22) (a ∷ b ∷ [])
-  unfolding column_counts
-  counts_are = by part e c d
-    where
-      by : (part : List ℕ) → length part ≡ 2 → a ≡ column_of (get_or part 0 0) → b ≡ column_of (get_or part 1 0)
-          → column_counts part ≡ tallied (range 0 22) (a ∷ b ∷ [])
-      by [] e c d = absurd (omega arith)
-      by (x ∷ []) e c d = absurd (omega arith)
-      by (x ∷ y ∷ []) e c d = rw (c, d)
-      by (x ∷ y ∷ z ∷ part) e c d = absurd (omega arith)
+pub two_letters : (part : List ℕ) (a b : ℕ) → length part ≡ 2 → a ≡ column_of (get_or part 0 0)
+    → b ≡ column_of (get_or part 1 0)
+    → column_counts part ≡ tallied (range 0 22) (a ∷ b ∷ [])
+unfolding column_counts
+two_letters [] a b e c d = absurd (omega arith)
+two_letters (x ∷ []) a b e c d = absurd (omega arith)
+two_letters (x ∷ y ∷ []) a b e c d = rw (c, d)
+two_letters (x ∷ y ∷ z ∷ part) a b e c d = absurd (omega arith)
 
-  below_a : a < 22
-  below_a = rw c (column_below (get_or part 0 0))
+-- ---- two columns
 
-  below_b : b < 22
-  below_b = rw d (column_below (get_or part 1 0))
+pub same_pair : (at a b : ℕ) → a < 22 → a ≡ b
+    → Shown at (map number (tallied (range 0 22) (a ∷ b ∷ []))) ((at + a) ∷ []) (number 2 ∷ [])
+same_pair at a b h e =
+    shown_of at _ (set (zeros 22) a 2)
+    (ap (λ (k : ℕ). tallied (range 0 22) (a ∷ k ∷ [])) (sym e) ∙ same_tallied a h)
+    (one_cell at 22 a 2 h two_some)
 
-  pub same_letters : a ≡ b → Shown at (map number (column_counts part)) ((at + a) ∷ []) (number 2 ∷ [])
-  same_letters s =
-      shown_of at _ (set (zeros 22) a 2)
-      (counts_are ∙ ap (λ (k : ℕ). tallied (range 0 22) (a ∷ k ∷ [])) (sym s) ∙ same_tallied a below_a)
-      (one_cell at 22 a 2 below_a two_some)
+pub other_pair : (at a b : ℕ) → a < 22 → b < 22 → (a ≡ b → ⊥)
+    → Shown at (map number (tallied (range 0 22) (a ∷ b ∷ []))) ((at + min a b) ∷ (at + max a b) ∷ []) (number 1 ∷ number 1 ∷ [])
+other_pair at a b h l d = by (dec_lt a b)
+  where
+    apart : tallied (range 0 22) (a ∷ b ∷ []) ≡ set (set (zeros 22) a 1) b 1
+    apart = other_tallied a b h l (λ f. d (sym f))
 
-  pub rising : a < b → Shown at (map number (column_counts part)) ((at + a) ∷ (at + b) ∷ []) (number 1 ∷ number 1 ∷ [])
-  rising h =
-      shown_of at _ (set (set (zeros 22) a 1) b 1) (counts_are ∙ other_tallied a b below_a below_b (λ f. omega arith))
-      (two_cells at 22 a b 1 1 h below_b one_some one_some)
-
-  pub falling : b < a → Shown at (map number (column_counts part)) ((at + b) ∷ (at + a) ∷ []) (number 1 ∷ number 1 ∷ [])
-  falling h =
-      shown_of at _ (set (set (zeros 22) b 1) a 1)
-      (counts_are
-      ∙ other_tallied a b below_a below_b (λ f. omega arith)
-      ∙ set_comm (zeros 22) a b 1 1 (λ f. omega arith))
-      (two_cells at 22 b a 1 1 h below_a one_some one_some)
+    by : Dec (a < b)
+        → Shown at (map number (tallied (range 0 22) (a ∷ b ∷ []))) ((at + min a b) ∷ (at + max a b) ∷ []) (number 1 ∷ number 1 ∷ [])
+    by (yes r) =
+        let low : min a b ≡ a = omega arith in
+        let high : max a b ≡ b = omega arith in
+        rw (low, high)
+        (shown_of at _ (set (set (zeros 22) a 1) b 1) apart (two_cells at 22 a b 1 1 r l one_some one_some))
+    by (no r) =
+        let low : min a b ≡ b = omega arith in
+        let high : max a b ≡ a = omega arith in
+        rw (low, high)
+        (shown_of at _ (set (set (zeros 22) b 1) a 1) (apart ∙ set_comm (zeros 22) a b 1 1 d)
+        (two_cells at 22 b a 1 1 (omega arith) h one_some one_some))
 
 -- ---- what came of listing it
 
@@ -200,3 +202,24 @@ module _ {at r n : ℕ} {cells : List Float} {ps : List ℕ} {vs : List Float} (
       pair_listed (a.count ∙ ap (λ (t : List ℕ). n + length t) (q ∙ sym e))
       (a.places_are ∙ ap (λ (t : List ℕ). take n p₀ ++ t) (q ∙ sym e))
       (a.values_are ∙ ap (λ (t : List Float). take n v₀ ++ t) (y ∙ sym f))
+
+  -- two cells were that have the same
+  pub cells_shown : {p q m : ℕ} {x y : Float} {p₀ p₁ p₂ : List ℕ} {v₀ v₁ v₂ : List Float} → ps ≡ p ∷ q ∷ []
+      → vs ≡ x ∷ y ∷ [] → is_zero x ≡ false → is_zero y ≡ false
+      → Appended p (x ∷ []) n m p₀ p₁ v₀ v₁
+      → Appended q (y ∷ []) m r p₁ p₂ v₁ v₂ → Appended at cells n r p₀ p₂ v₀ v₂
+  unfolding nonzeros nonzero_cells
+  cells_shown {p} {q} {m} {x} {y} {p₀} {p₁} {p₂} {v₀} {v₁} {v₂} e f z w a b =
+      let pa : nonzeros p (x ∷ []) ≡ p ∷ [] = rw z in
+      let pb : nonzeros q (y ∷ []) ≡ q ∷ [] = rw w in
+      let va : nonzero_cells (x ∷ []) ≡ x ∷ [] = rw z in
+      let vb : nonzero_cells (y ∷ []) ≡ y ∷ [] = rw w in
+      pair_listed (omega (arith, a.count, b.count, ap length pa, ap length pb, ap length e))
+      (b.places_are
+      ∙ ap₂ (λ (s t : List ℕ). s ++ t) (a.places_are ∙ ap (λ (t : List ℕ). take n p₀ ++ t) pa) pb
+      ∙ append_assoc (take n p₀) (p ∷ []) (q ∷ [])
+      ∙ ap (λ (t : List ℕ). take n p₀ ++ t) (sym e))
+      (b.values_are
+      ∙ ap₂ (λ (s t : List Float). s ++ t) (a.values_are ∙ ap (λ (t : List Float). take n v₀ ++ t) va) vb
+      ∙ append_assoc (take n v₀) (x ∷ []) (y ∷ [])
+      ∙ ap (λ (t : List Float). take n v₀ ++ t) (sym f))

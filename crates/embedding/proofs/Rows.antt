@@ -2,18 +2,18 @@
 -- block after the other.
 use mathlib.Core.Path.{◌≡◌, refl, sym, ap, ◌∙◌}
 use mathlib.Core.Bool.{Bool}
-use mathlib.Core.List.{List, [], ◌∷◌, ◌++◌, map, append_assoc}
+use mathlib.Core.List.{List, [], ◌∷◌, ◌++◌, map, append_assoc, append-nil}
 use Prim.Native.Nat.{ℕ, zero, suc, ◌+◌, ◌-◌, ◌^◌, ◌≤◌, ◌<◌}
 use native.Mathlib.Nat.{le_of_suc-le-suc, le_trans, not-suc-le-zero, sub-zero, suc-sub-suc}
 use native.Mathlib.Omega.{arith}
 use lib.Dec.{lit≤}
 use lib.Ieee.{Float, binary64, add, of_bits, of_int}
-use lib.ListN.{length, length-append, get_or, set, take, drop, replicate, length-take, length-drop, take-append-drop}
-use lib.Seq.{length-take-le, take-nil, take_at, drop_at, drop-append-le, drop-drop}
+use lib.ListN.{length, length-append, get_or, set, take, drop, length-take, length-drop, take-append-drop, drop_of_length-le}
+use lib.Seq.{take-nil, take_at, drop_at, drop-append-le, drop-drop}
 use Rattle.mass.specs.Mass.{column_of}
 use Rattle.mass.proofs.Laws.{column_below}
 use Rattle.matrix.specs.Lists.{overwritten}
-use Rattle.embedding.specs.Count.{how_many, range, tallied}
+use Rattle.embedding.specs.Count.{range, tallied}
 use Rattle.float.specs.Number.{number, zero64}
 use Rattle.float.proofs.Whole.{number_add}
 use Rattle.embedding.specs.declared.Model.TheVariants.{Retention}
@@ -69,6 +69,15 @@ next_block {A} a k w done b old row back so size fits room e = record {
         ∙ ap (λ (t : List A). b ++ t)
         (sym (drop-append-le k (take w (drop a old)) (drop w (drop a old)) enough) ∙ ap (drop k) (take-append-drop w (drop a old)))
 
+-- The same, where the part came back with the block alone.
+pub next_filled : {A : Type 0} (a k : ℕ) (done b old row back : List A) → Done a done old row → length b ≡ k
+    → a + k ≤ length old
+    → back ≡ b → Done (a + k) (done ++ b) old (returned a k row back)
+next_filled {A} a k done b old row back so size room e =
+    let short : length (take k (drop a row)) ≤ k = simp length-take (omega arith) in
+    next_block a k k done b old row back so size (omega arith) room
+    (e ∙ sym (append-nil b) ∙ ap (λ (t : List A). b ++ t) (sym (drop_of_length-le (take k (drop a row)) {i = k} short)))
+
 -- ---- constants of the code
 
 pub none : zero64 ≡ number 0
@@ -86,41 +95,29 @@ thousand = refl
 -- ---- cells that count
 
 -- a cell of whole numbers gains 1.0
-pub cell_more : (cs : List ℕ) (rest : List Float) (k : ℕ) (d : Float) → k < length cs → get_or cs k 0 ≤ 2 ^ 53
-    → set (map number cs ++ rest) k (add binary64 (get_or (map number cs ++ rest) k d) (number 1))
-    ≡ map number (set cs k (get_or cs k 0 + 1)) ++ rest
-cell_more [] rest k d h b = absurd (not-suc-le-zero h)
-cell_more (c ∷ cs) rest zero d h b =
-    ap {B = List Float} (λ x. x ∷ (map number cs ++ rest)) (number_add c 1 b (lit≤ tt))
-cell_more (c ∷ cs) rest (suc k) d h b =
-    ap {B = List Float} (λ t. number c ∷ t) (cell_more cs rest k d (le_of_suc-le-suc h) b)
+cell_more : (cs : List ℕ) (k : ℕ) (d : Float) → k < length cs → get_or cs k 0 ≤ 2 ^ 53
+    → set (map number cs) k (add binary64 (get_or (map number cs) k d) (number 1))
+    ≡ map number (set cs k (get_or cs k 0 + 1))
+cell_more [] k d h b = absurd (not-suc-le-zero h)
+cell_more (c ∷ cs) zero d h b = ap {B = List Float} (λ x. x ∷ map number cs) (number_add c 1 b (lit≤ tt))
+cell_more (c ∷ cs) (suc k) d h b =
+    ap {B = List Float} (λ t. number c ∷ t) (cell_more cs k d (le_of_suc-le-suc h) b)
 
--- A loop that counts in a row's first m cells: they hold the tally of the first i elements' numbers.
-module _ (m : ℕ) (f : ℕ → ℕ) (xs : List ℕ) (row rest : List Float) (i : ℕ)
-    (is : row ≡ map number (tallied (range 0 m) (map f (take i xs))) ++ rest) where
+-- A loop that counts in m cells: they hold the tally of the first i elements' numbers.
+module _ (m : ℕ) (f : ℕ → ℕ) (xs : List ℕ) (row : List Float) (i : ℕ)
+    (is : row ≡ map number (tallied (range 0 m) (map f (take i xs)))) where
   pub cells_next : (k : ℕ) (d : Float) → i < length xs → length xs < 2 ^ 32 → k ≡ f (get_or xs i 0) → k < m
-      → set row k (add binary64 (get_or row k d) (number 1))
-      ≡ map number (tallied (range 0 m) (map f (take (i + 1) xs))) ++ rest
+      → set row k (add binary64 (get_or row k d) (number 1)) ≡ map number (tallied (range 0 m) (map f (take (i + 1) xs)))
   cells_next k d h b e l =
       let cs = tallied (range 0 m) (map f (take i xs)) in
       ap (λ (r : List Float). set r k (add binary64 (get_or r k d) (number 1))) is
-      ∙ cell_more cs rest k d (rw (length_tally m (map f (take i xs))) l)
+      ∙ cell_more cs k d (rw (length_tally m (map f (take i xs))) l)
       (le_trans (counter_le m f xs cs i refl k (omega arith) l) (omega arith))
-      ∙ ap (λ (t : List ℕ). map number t ++ rest) (tally_next m f xs cs i refl k h e l)
+      ∙ ap (map number) (tally_next m f xs cs i refl k h e l)
 
 -- the column of a letter is one of 22
 pub column_within : (letter k : ℕ) → k ≡ column_of letter → k < 22
 column_within letter k e = omega (arith, column_below letter)
-
--- 22 cells that were cleared hold the counts of no letter; the others are as they were
-pub cleared : (old back : List Float) → 22 ≤ length old → back ≡ replicate (length (take 22 old)) zero64
-    → (back ++ drop 22 old ≡ map number (tallied (range 0 22) []) ++ drop 22 (back ++ drop 22 old)) × (drop 22 (back ++ drop 22 old) ≡ drop 22 old)
-unfolding tallied range how_many of_bits of_int
-cleared old back h e =
-    let z : back ≡ replicate 22 zero64 =
-    e ∙ ap (λ (n : ℕ). replicate n zero64) {x = length (take 22 old)} {y = 22} (length-take-le 22 old h) in
-    let r : drop 22 (back ++ drop 22 old) ≡ drop 22 old = ap (λ (b : List Float). drop 22 (b ++ drop 22 old)) z in
-    (ap (λ (b : List Float). b ++ drop 22 old) z ∙ ap (λ (t : List Float). replicate 22 zero64 ++ t) (sym r), r)
 
 -- ---- the counts of the 22 columns
 
@@ -138,16 +135,6 @@ pub embedded : (letters : List ℕ) (sel : ℕ → ℕ → Bool) (held : List �
     → held ≡ chosen sel letters → back ≡ block sel letters ++ rest
 unfolding block counts
 embedded letters sel held rest back e h = e ∙ ap (λ (l : List ℕ). map number (column_counts l) ++ rest) h
-
--- what came back from copying the counts of all letters
-pub copied : (letters : List ℕ) (cells rest back : List Float) → back ≡ overwritten cells rest
-    → cells ≡ map number (column_counts letters)
-    → back ≡ block everywhere letters ++ drop 22 rest
-unfolding block counts column_counts tallied range
-copied letters cells rest back e h =
-    e
-    ∙ ap (λ (t : List Float). overwritten t rest) h
-    ∙ ap (λ (l : List ℕ). overwritten (map number (column_counts l)) rest) (sym (chosen_everywhere letters))
 
 -- what came back from making a cell of each of them
 pub made : (g : Float → Float) (letters : List ℕ) (cells rest back : List Float)

@@ -3,3 +3,5 @@ pub mod Count
 pub mod Classes
 pub mod Design
 pub mod Listing
+pub mod Row
+pub mod Appending

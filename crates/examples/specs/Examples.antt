@@ -17,9 +17,10 @@ use Rattle.elimination.specs.Ridge.{Solution, solved, unsolved}
 use Rattle.status.specs.Told.{told_for}
 use Rattle.gauss.specs.Solve.{solution_of, solution_told, status_by, needed, outputs}
 use Rattle.matrix.specs.Rows.{flat}
-use Rattle.regression.specs.Regression.{Sample, Values, fit_of, told_by}
+use Rattle.regression.specs.Regression.{Sample, fit_of, told_by}
 use Rattle.regression.specs.Triangle.{triangle, unfolded}
 use Rattle.regression.specs.Workspace.{workspace_cells}
+use Rattle.regression.specs.declared.Fit.{Fit}
 use Rattle.rt_matrix.specs.Columns.{columns_of}
 use Rattle.retention_alignment.specs.Observation.{max_rts}
 use Rattle.retention_alignment.specs.Call.{Input, Slices, rows, records_for, status, slices_after}
@@ -207,7 +208,7 @@ a_nan = 0x7FF8_0000_0000_0000
 
 -- of order 1 to samples with these cells, given as bits, and the target 5.0: its number and, where it is solved, its
 -- ridge as bits and n
-abbrev pub fit_numbers : ℕ → Option Values → List ℕ
+abbrev pub fit_numbers : ℕ → Option Fit → List ℕ
 fit_numbers status none = status ∷ []
 fit_numbers status (some v) = status ∷ to_bits binary64 v.ridge ∷ v.n ∷ []
 

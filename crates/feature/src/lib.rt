@@ -9,8 +9,5 @@ ghost use Rattle.feature.specs.Feature.{trains};
 pub fn trains(label: i32, q: f32) -> bool
     ensures { result ≡ trains label q }
 {
-    if label == 1 {
-        return q <= 0.01;
-    }
-    false
+    label == 1 && q <= 0.01
 }

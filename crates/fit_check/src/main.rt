@@ -7,11 +7,12 @@
 mod fits;
 
 use embedding::Model;
+use fits::Call;
 use std::io;
 
 fn main(rt: HostRuntime) -> io::Result<()> {
-    fits::calls(&rt, Model::Retention, false)?;
-    fits::calls(&rt, Model::Retention, true)?;
-    fits::calls(&rt, Model::Mobility, false)?;
-    fits::calls(&rt, Model::Mobility, true)
+    fits::calls(&rt, Call::Fit(Model::Retention))?;
+    fits::calls(&rt, Call::Predict(Model::Retention))?;
+    fits::calls(&rt, Call::Fit(Model::Mobility))?;
+    fits::calls(&rt, Call::Predict(Model::Mobility))
 }

@@ -1,10 +1,9 @@
 -- Hex digits both ways, over the number of digits.
-use Rattle.std.proofs.Common.{◌≡◌, ℕ, zero, suc, ◌+◌, ◌-◌, ◌*◌, ◌/◌, ◌%◌, ◌^◌, ◌<◌, ◌≤◌, Bool, true, false, cond, ◌&&◌, ltb, leb, List, [], ◌∷◌, length, get_or, drop, set, sym, refl, ap, ◌∙◌, subst, ap₂, lt_of_lt_of_le, add_assoc, mod-eq_of_lt, mul_assoc, add-mul, add_comm, pow-suc, div-add-mod', add-one, arith, drop-cons, get_or-set_same, drop-set-lt, lt-length-set, ltb-false, ltb-true, le-ltb, lt-ltb, le-leb, leb-true}
+use Rattle.std.proofs.Common.{◌≡◌, ℕ, zero, suc, ◌+◌, ◌-◌, ◌*◌, ◌/◌, ◌%◌, ◌^◌, ◌<◌, ◌≤◌, Bool, true, false, cond, ◌&&◌, ltb, leb, List, [], ◌∷◌, length, get_or, drop, set, sym, refl, ap, ◌∙◌, subst, ap₂, lt_of_lt_of_le, add_assoc, mod-eq_of_lt, mul_assoc, add-mul, add_comm, pow-suc, div-add-mod', add-one, arith, drop-cons, get_or-set_same, drop-set-lt, lt-length-set, ltb-false, ltb-true, le-ltb, lt-ltb, le-leb, leb-true, Some, None}
 use native.Mathlib.Nat.{pow-succ', one-le-pow, pow-le-pow_right, mod-one, add-mul-div_right, div-div-eq-div-mul}
 use lib.Arith.{digits_lt, digits_div, mod-mul}
 use borrow.Author.Tests.{lt-leb}
-use Rattle.float.specs.declared.hex.HexRead.TheVariants.{Value, Malformed}
-use Rattle.float.specs.Hex.{hex_digit, digit_value, hex_of, all_hex, hex_value, read_hex}
+use Rattle.float.specs.Hex.{hex_digit, digit_value, read_digit, hex_of, all_hex, hex_value, read_hex}
 use Rattle.float.proofs.Order.{and_true}
 
 pow_pos : (k : ℕ) → 0 < 16 ^ k
@@ -18,6 +17,31 @@ value_decimal c h k = simp (le-leb 48 c h, le-leb c 57 k)
 pub value_letter : (c : ℕ) → 65 ≤ c → c ≤ 70 → digit_value c ≡ c - 55
 unfolding digit_value
 value_letter c h k = simp (le-leb 48 c (omega arith), lt-leb c 57 (omega arith), le-leb 65 c h, le-leb c 70 k)
+
+pub read_some : (c d : ℕ) → digit_value c ≡ d → d < 16 → Some d ≡ read_digit c
+read_some c d e h = rw e (simp (lt-ltb d 16 h))
+
+pub read_none : (c : ℕ) → digit_value c ≡ 16 → None ≡ read_digit c
+read_none c e = rw e refl
+
+-- a byte that reads as d is a digit of that value
+pub read_by : (c d : ℕ) → read_digit c ≡ Some d → (digit_value c ≡ d) × (d < 16)
+read_by c d = by (ltb (digit_value c) 16) (ltb-true (digit_value c) 16)
+  where
+    by : (t : Bool) → (t ≡ true → digit_value c < 16) → cond t (Some (digit_value c)) None ≡ Some d
+        → (digit_value c ≡ d) × (d < 16)
+    by true l e =
+        let v : digit_value c ≡ d = cc in
+        (v, omega (arith, l refl))
+    by false l e = cc
+
+-- and one that does not is none
+pub read_not : (c : ℕ) → read_digit c ≡ None → ltb (digit_value c) 16 ≡ false
+read_not c = by (ltb (digit_value c) 16)
+  where
+    by : (t : Bool) → cond t (Some (digit_value c)) None ≡ None → t ≡ false
+    by true e = cc
+    by false e = refl
 
 pub value_digit : (d : ℕ) → d < 16 → digit_value (hex_digit d) ≡ d
 unfolding hex_digit
@@ -178,10 +202,10 @@ pub lt_16_digits : (v i : ℕ) → v < 16 ^ i → i < 16 → v < 16 ^ 15
 lt_16_digits v i h k = lt_of_lt_of_le h (pow-le-pow_right {n = 16} (omega arith) {i = i} {j = 15} (omega arith))
 
 -- ---- a text of 1 to 16 digits
-pub read_hex_hex_of : (k v : ℕ) → 1 ≤ k → k ≤ 16 → read_hex (hex_of k v) ≡ Value (v % 16 ^ k)
+pub read_hex_hex_of : (k v : ℕ) → 1 ≤ k → k ≤ 16 → read_hex (hex_of k v) ≡ Some (v % 16 ^ k)
 unfolding read_hex
 read_hex_hex_of k v h l =
-    ap (λ (n : ℕ). cond (leb 1 n && leb n 16 && all_hex (hex_of k v)) (Value (hex_value (hex_of k v))) Malformed)
+    ap (λ (n : ℕ). cond (leb 1 n && leb n 16 && all_hex (hex_of k v)) (Some (hex_value (hex_of k v))) None)
     (length_hex_of k v)
     ∙ simp (le-leb 1 k h, le-leb k 16 l, all_hex_hex_of k v, hex_value_hex_of k v)
 
@@ -194,16 +218,16 @@ pub record Reads (s : List ℕ) (v : ℕ) : Type 0 where
   pub below : v < 16 ^ length s
   pub back : hex_of (length s) v ≡ s
 
-pub read_hex_reads : (s : List ℕ) (v : ℕ) → read_hex s ≡ Value v → Reads s v
+pub read_hex_reads : (s : List ℕ) (v : ℕ) → read_hex s ≡ Some v → Reads s v
 unfolding read_hex
 read_hex_reads s v =
     go (leb 1 (length s)) (leb (length s) 16) (all_hex s) (leb-true 1 (length s)) (leb-true (length s) 16) (λ e. e)
   where
-    differ : Malformed ≡ Value v → ⊥
+    differ : None ≡ Some v → ⊥
     differ h = let z : ◌≡◌ {A = ℕ} 0 1 = cc in omega arith
 
     go : (t u w : Bool) → (t ≡ true → 1 ≤ length s) → (u ≡ true → length s ≤ 16)
-        → (w ≡ true → all_hex s ≡ true) → cond (t && u && w) (Value (hex_value s)) Malformed ≡ Value v
+        → (w ≡ true → all_hex s ≡ true) → cond (t && u && w) (Some (hex_value s)) None ≡ Some v
         → Reads s v
     go true true true a b c h =
         let d = c refl in
@@ -220,5 +244,5 @@ read_hex_reads s v =
     go true false w a b c h = absurd (differ h)
     go false u w a b c h = absurd (differ h)
 
-pub read_hex_lt : (k : ℕ) (s : List ℕ) {v : ℕ} → length s ≡ k → read_hex s ≡ Value v → v < 16 ^ k
+pub read_hex_lt : (k : ℕ) (s : List ℕ) {v : ℕ} → length s ≡ k → read_hex s ≡ Some v → v < 16 ^ k
 read_hex_lt k s {v} e h = subst (λ (n : ℕ). v < 16 ^ n) e (read_hex_reads s v h).below

@@ -1,19 +1,12 @@
 -- A NaN by its tests, of a value and of a bit pattern, over the format.
-use Rattle.std.proofs.Common.{◌≡◌, ℕ, ◌*◌, ◌%◌, ◌<◌, ◌≤◌, Bool, true, false, not, T, sym, refl, ◌∙◌, subst, true≢false, lt→ltb}
-use lib.Arith.{le→nltb}
-use lib.Ieee.{Float, nan, inf, fin, Format, binary32, binary64, div, ne, is_nan, of_bits, nan_bits, hid, ones, top}
-use lib.Ieee.Bits.{nan_bits_is, nan_bits_above}
+use Rattle.std.proofs.Common.{◌≡◌, ℕ, true, false, T, sym, refl, ◌∙◌, subst, true≢false}
+use lib.Ieee.{Float, nan, inf, fin, Format, binary32, binary64, div, ne, is_nan, of_bits, nan_bits}
+use lib.Ieee.Bits.{nan_bits_is}
 use lib.Ieee.Compare.{differs_from_itself}
 
 -- ---- the test `x != x`
 pub is_nan_lem : (x : Float) → ne x x ≡ true → x ≡ nan
 is_nan_lem x h = differs_from_itself x (subst T (sym h) tt)
-
-pub no_nan : (x : Float) → ne x x ≡ false → T (not (is_nan x))
-unfolding ne is_nan
-no_nan nan e = absurd (true≢false e)
-no_nan (inf s) e = tt
-no_nan (fin s m e) d = tt
 
 pub is_nan_not : (x : Float) → ne x x ≡ false → is_nan x ≡ false
 unfolding ne is_nan
@@ -40,10 +33,3 @@ the_only (fin s m e) t = absurd t
 
 pub pattern_nan : (f : Format) (b : ℕ) → T (nan_bits f b) → of_bits f b ≡ nan
 pattern_nan f b h = the_only (of_bits f b) (subst T (nan_bits_is f b) h)
-
--- above an infinity's, and not above it, the sign left out
-pub above_nan : (f : Format) (b : ℕ) → ones f * hid f < b % top f → T (nan_bits f b)
-above_nan f b h = subst T (sym (nan_bits_above f b)) (lt→ltb (ones f * hid f) (b % top f) h)
-
-pub not_above : (f : Format) (b : ℕ) → b % top f ≤ ones f * hid f → T (not (nan_bits f b))
-not_above f b h = subst (λ (t : Bool). T (not t)) (sym (nan_bits_above f b)) (le→nltb (ones f * hid f) (b % top f) h)

@@ -1,11 +1,11 @@
 // Conversions between the two float formats and the integers.
-ghost use Rattle.std.specs.Prelude.{◌≡◌, ◌+◌, ◌^◌, ◌<◌, ◌≤◌, Bool, pos, if◌then◌else◌, to_bits};
+ghost use Rattle.std.specs.Prelude.{◌≡◌, pos};
 ghost use Rattle.std.specs.Float.{binary32, binary64};
-ghost use Rattle.std.specs.Float.Ieee.{of_int, of_fields};
-ghost use Rattle.std.specs.Float.Ieee.Nearest.{closest};
+ghost use Rattle.std.specs.Float.Ieee.{of_int};
 ghost use Rattle.float.specs.Convert.{narrowed, is_exact, ceiling};
 
-// An f64 as an f32, and whether nothing was lost: the two are equal, which a NaN never is.
+// An f64 as an f32, and whether nothing was lost: the two are equal, which a NaN never is. The f32 is wanted where
+// something was lost too, so this is no Option.
 #[derive(Clone, Copy)]
 pub struct Narrowed {
     pub value: f32,
@@ -19,7 +19,7 @@ pub fn narrow(x: f64) -> Narrowed
     ensures value_value { result.value ≡ narrowed x }
     ensures exact_value { result.exact ≡ is_exact x }
 {
-    let value = nearest_f32(x);
+    let value = std::num::nearest_f64_to_f32_with_nan(x);
     let wide = widen(value);
     Narrowed {
         value,
@@ -27,72 +27,15 @@ pub fn narrow(x: f64) -> Narrowed
     }
 }
 
-// The f32 of `narrow`.
-fn nearest_f32(x: f64) -> f32
-    ensures { result ≡ narrowed x }
-{
-    if x != x {
-        return 0.0f32 / 0.0f32;
-    }
-    let b: u64 = f64::to_bits(x);
-    let p: u64 = narrow_fields(
-        b % 0x8000_0000_0000_0000 / 0x10_0000_0000_0000,
-        b % 0x10_0000_0000_0000,
-    );
-    if b < 0x8000_0000_0000_0000 {
-        return f32::from_bits(p as u32);
-    }
-    f32::from_bits((0x8000_0000 + p) as u32)
-}
-
-// The pattern, without its sign, of the f32 nearest to the f64 with the exponent's field e and the
-// digits t. From 897 on the result is normal: it keeps 24 digits of 53. Below, it is a multiple of
-// 2^-149, the smallest f32, and up to 864 it is zero.
-fn narrow_fields(e: u64, t: u64) -> u64
-    requires { (e < 2048) × (t < 2 ^ 52) × (e ≡ 2047 → t ≡ 0) }
-    ensures upper_bound { result ≤ 0x7f80_0000 }
-    ensures t_value { (s : Bool)
-        → to_bits binary32 (narrowed (of_fields binary64 s e t)) ≡ (if s then 0x8000_0000 else 0) + result }
-{
-    if e < 865 {
-        return 0;
-    }
-    if e < 897 {
-        return shift_right_nearest(0x10_0000_0000_0000 + t, 926 - e);
-    }
-    let p: u64 = (e - 897) * 0x80_0000 + shift_right_nearest(0x10_0000_0000_0000 + t, 29);
-    if p < 0x7f80_0000 {
-        return p;
-    }
-    0x7f80_0000
-}
-
-// v / 2^h to the nearest whole number, a tie to the even one.
-fn shift_right_nearest(v: u64, h: u64) -> u64
-    requires { (1 ≤ h) × (h < 63) }
-    ensures { result ≡ closest v (2 ^ h) }
-{
-    let u: u64 = 1 << h;
-    let q: u64 = v >> h;
-    let r: u64 = (v & (u - 1)) * 2;
-    if r < u {
-        return q;
-    }
-    if u < r {
-        return q + 1;
-    }
-    q + q % 2
-}
-
 // x as an f64, which holds every f32. A NaN gives 7FF8000000000000.
 pub fn widen(x: f32) -> f64
     ensures { result ≡ x }
 {
-    std::num::f32_to_f64_with_nan(x)
+    f64::from(x)
 }
 
 // Rust's `x.ceil() as u32`: x rounded up to a whole number; 0 for a NaN and for what is negative,
-// 4,294,967,295 for what is above that.
+// 4,294,967,295 for what is above that. By the whole part: the library's `ceil` takes half as long again.
 pub fn ceil_to_u32(x: f32) -> u32
     ensures { result ≡ ceiling 32 x }
 {
@@ -116,7 +59,7 @@ pub fn ceil_to_u32(x: f32) -> u32
 pub fn u32_to_f64(n: u32) -> f64
     ensures { result ≡ of_int binary64 (pos n) }
 {
-    n as f64
+    f64::from(n)
 }
 
 // Rust's `n as f32`: the nearest f32, of two as near the one with an even last digit.

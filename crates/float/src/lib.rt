@@ -9,5 +9,5 @@ mod hex; // hex_digit, digit_value, write_hex, read_hex
 
 pub use bits::{bits32, bits64, canonical32, canonical64, from_bits32, from_bits64};
 pub use convert::{Narrowed, ceil_to_u32, narrow, u32_to_f32, u32_to_f64, widen};
-pub use hex::{HexRead, digit_value, hex_digit, read_hex, write_hex};
+pub use hex::{digit_value, hex_digit, read_hex, write_hex};
 pub use value::{abs32, clamp64, is_finite32, is_finite64, is_normal64, min64};

@@ -3,8 +3,7 @@
 #![tactic(auto)]
 
 use std::io;
-use std::io::Read;
-use vectors::{Next, Record};
+use vectors::Record;
 
 fn f32_of(v: u64) -> f32 {
     float::from_bits32(vectors::low32(v))
@@ -30,27 +29,11 @@ fn answer(r: Record) -> u64 {
         12 => float::bits64(float::widen(y)),
         13 => float::is_finite32(y) as u64,
         14 => float::narrow(x).exact as u64,
+        // No stored record has another number.
         _ => 0xffff_ffff_ffff_ffff,
     }
 }
 
-// Answers one line, and says whether there was one.
-fn replay(out: &impl Print, input: &mut impl Read) -> io::Result<bool> {
-    let Next::Case(r) = vectors::read_record(input)? else {
-        return Ok(false);
-    };
-    vectors::write_token(out, answer(r))?;
-    Ok(true)
-}
-
-// A proved loop has to end, and nothing says that the input does: so the turns are counted, up to a number that no run
-// reaches.
 fn main(rt: HostRuntime) -> io::Result<()> {
-    let mut input = rt.reader();
-    for _ in 0..u64::MAX {
-        if !replay(&rt, &mut input)? {
-            break;
-        }
-    }
-    Ok(())
+    vectors::replay(&rt, &mut rt.reader(), answer)
 }

@@ -1,7 +1,7 @@
 -- The checks and the contract of `solve`, from what stands behind them.
 use mathlib.Core.Path.{◌≡◌, refl, sym, ap, ◌∙◌}
 use mathlib.Core.List.{List, [], ◌∷◌, ◌++◌}
-use mathlib.Core.Bool.{Bool, true, false, ◌&&◌, cond}
+use mathlib.Core.Bool.{Bool, true, false, ◌&&◌, cond, true≢false}
 use Prim.Native.Nat.{ℕ, ◌*◌, ◌≤◌, ◌<◌}
 use native.Mathlib.Nat.{mul-add}
 use native.Mathlib.Omega.{arith}
@@ -9,10 +9,13 @@ use lib.ListN.{length, get_or, take, drop, replicate, take-append-drop}
 use lib.Seq.{length-take-le}
 use lib.Dec.{leb, eqb}
 use lib.Ieee.{Float}
-use borrow.Author.Tests.{leb-true, eqb-true, eq-eqb, ne_eqb}
+use borrow.Author.Tests.{leb-true, eqb-true, eq-eqb}
 use Rattle.params.specs.Slice.{change}
 use Rattle.status.specs.Checks.{every}
-use Rattle.status.specs.Status.{accepted, bad_lengths, past_limit, too_short}
+use Rattle.std.specs.Prelude.{Option, Result, Ok, Err, ⊤}
+use Rattle.status.specs.declared.Refusal.{Refusal}
+use Rattle.status.specs.Status.{accepted, bad_lengths, past_limit, too_short, first_failing, number_of, refusal_by, checked}
+use Rattle.status.specs.Told.{only}
 use Rattle.status.specs.Limits.{within_system_limits, max_order, max_columns}
 use Rattle.status.proofs.Laws.{and_true, system_limits}
 use Rattle.status.proofs.First.{passed_at_lem}
@@ -35,8 +38,6 @@ use Rattle.gauss.specs.Solve.{
   Accepted,
   Searched,
 }
-use Rattle.gauss.specs.declared.SolveAnswer.{SolveAnswer}
-use Rattle.gauss.specs.declared.SolveAnswer.TheVariants.{Refused}
 
 -- ---- the checks
 
@@ -78,11 +79,45 @@ module _ (i : System) (s : Slices) (accept : status i s ≡ accepted) where
 
 -- ---- the contract
 
+-- the number of a refusal is the status that it was made of: of the three checks, the first that fails
+numbered : (sides limits room : Bool)
+    → let q = first_failing ((bad_lengths, sides) ∷ (past_limit, limits) ∷ (too_short, room) ∷ []) in
+    eqb q accepted ≡ false → number_of (refusal_by q) ≡ q
+numbered false limits room e = refl
+numbered true false room e = refl
+numbered true true false e = refl
+numbered true true true e = absurd (true≢false e)
+
+-- a check's answer: an error where one fails, by its status, and else none
+module _ (q : ℕ) where
+  err_by : (b : Bool) (r : Refusal) → eqb q accepted ≡ b
+      → cond {A = Result ⊤ Refusal} b (Ok tt) (Err (refusal_by q)) ≡ Err r
+      → (eqb q accepted ≡ false) × (r ≡ refusal_by q)
+  err_by true r t h = cc
+  err_by false r t h = (t, cc)
+
+  ok_by : (b : Bool) (u : ⊤) → eqb q accepted ≡ b → cond {A = Result ⊤ Refusal} b (Ok tt) (Err (refusal_by q)) ≡ Ok u
+      → q ≡ accepted
+  ok_by true u t h = eqb-true q accepted t
+  ok_by false u t h = cc
+
+  pub is_accepted : (u : ⊤) → checked q ≡ Ok u → q ≡ accepted
+  is_accepted u e = ok_by (eqb q accepted) u refl e
+
 -- a refused call
-pub refused : (i : System) (s : Slices) (q : ℕ) → q ≡ status i s → (q ≡ 0 → ⊥) → Solves i (change s s) (Refused q)
-refused i s q e z =
-    let test : eqb (status i s) accepted ≡ false = ne_eqb (status i s) 0 (λ h. z (e ∙ h)) in
-    rw e (record { answer = simp test; told = simp test; slices = simp test })
+pub refused : (i : System) (s : Slices) (r : Refusal) → checked (status i s) ≡ Err r
+    → Solves i (change s s) (Err r)
+refused i s r e =
+    let q = err_by (status i s) (eqb (status i s) accepted) r refl e in
+    let number = numbered (eqb (length i.left) (i.n * i.n) && eqb (length i.right) (i.n * i.c))
+    (within_system_limits i.n i.c)
+    (leb (needed i.n i.c) (length s.workspace) && leb (outputs i.n i.c) (length s.solution)) q.0 in
+    rw q.1
+    (record {
+      answer = simp (q.0);
+      told = ap only number ∙ simp (q.0);
+      slices = simp (q.0);
+    })
 
 -- what a call needs of its slices: n cells of the workspace, m of the output
 module _ (i : System) (s : Slices) (n m : ℕ) (en : n ≡ needed i.n i.c) (em : m ≡ outputs i.n i.c) where
@@ -115,17 +150,17 @@ module _ (i : System) (s : Slices) (n m : ℕ) (en : n ≡ needed i.n i.c) (em :
   written_is unsolved cells e l =
       ap (λ (t : List Float). t ++ drop m s.solution) e ∙ take-append-drop m s.solution
 
-  told_is : (x : Solution) → told_by (answer_by x) ≡ solution_told x
+  told_is : (x : Solution) → told_by (Ok (answer_by x)) ≡ solution_told x
   told_is (solved eps cells) = refl
   told_is unsolved = refl
 
   -- an accepted one, from what the search left in the parts
-  pub answered : status i s ≡ accepted → (t : Slices) (r : SolveAnswer) → Searched i (change parts t) r
+  pub answered : status i s ≡ accepted → (t : Slices) (r : Option Float) → Searched i (change parts t) r
       → length t.workspace ≡ length parts.workspace → length t.solution ≡ length parts.solution
       → Solves i (change s (record {
         workspace = t.workspace ++ drop n s.workspace;
         solution = t.solution ++ drop m s.solution;
-      })) r
+      })) (Ok r)
   answered e t r f lw ls =
       let p = passed i s e in
       let test : eqb (status i s) accepted ≡ true = eq-eqb (status i s) 0 e in
@@ -134,8 +169,8 @@ module _ (i : System) (s : Slices) (n m : ℕ) (en : n ≡ needed i.n i.c) (em :
       (f.cells ∙ ap (λ (k : ℕ). replicate k zero64) (cells_taken p ∙ en)) (lw ∙ cells_taken p) in
       let solution_is = written_is (solution_for i) t.solution f.solution (ls ∙ outputs_taken p) in
       record {
-        answer = rw test f.answer;
-        told = rw test (ap told_by f.answer ∙ told_is (solution_for i));
+        answer = rw test (ap Ok f.answer);
+        told = rw test (ap (λ (o : Option Float). told_by (Ok o)) f.answer ∙ told_is (solution_for i));
         slices =
             (λ k. record { workspace = workspace_is k; solution = solution_is k })
             ∙ sym (ap (λ (b : Bool). cond b (filled i s) s) test);

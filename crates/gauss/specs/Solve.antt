@@ -1,7 +1,8 @@
 -- What a call of `solve` answers and leaves behind. Definitions only.
-use Rattle.std.specs.Prelude.{List, [], ◌∷◌, ◌&&◌, ◌≡◌, ℕ, ◌+◌, ◌*◌, ◌≤◌, length, replicate, leb, eqb, Float}
+use Rattle.std.specs.Prelude.{List, [], ◌∷◌, ◌&&◌, ◌≡◌, ℕ, ◌+◌, ◌*◌, ◌≤◌, length, replicate, leb, eqb, Float, Option, Some, None, Result, Ok, Err}
 use Rattle.params.specs.Slice.{Held, MutHeld, Change, change, Slice, MutSlice}
-use Rattle.status.specs.Status.{bad_lengths, past_limit, too_short, not_solved, first_failing}
+use Rattle.status.specs.declared.Refusal.{Refusal}
+use Rattle.status.specs.Status.{bad_lengths, past_limit, too_short, not_solved, first_failing, number_of, refusal_by}
 use Rattle.status.specs.Limits.{within_system_limits, max_order, max_columns}
 use Rattle.status.specs.Told.{Told, gives, only, if_accepted, told_for}
 use Rattle.matrix.specs.Rows.{rows_of}
@@ -9,8 +10,6 @@ use Rattle.float.specs.Number.{zero64}
 use Rattle.matrix.specs.Lists.{overwritten}
 use Rattle.elimination.specs.Rows.{augmented}
 use Rattle.elimination.specs.Ridge.{ridges, Solution, solved, unsolved, first_solved, written}
-use Rattle.gauss.specs.declared.SolveAnswer.{SolveAnswer}
-use Rattle.gauss.specs.declared.SolveAnswer.TheVariants.{Solved, Unsolved, Refused}
 
 -- what is read: the two sides, the order and the number of right columns
 pub record System : Type 0 where
@@ -66,10 +65,10 @@ status i s =
 -- ---- the answer
 
 -- what every case of it tells: a solved system has its ridge
-abbrev pub told_by : SolveAnswer → Told Float
-told_by (Solved ridge) = gives ridge
-told_by Unsolved = only not_solved
-told_by (Refused n) = only n
+abbrev pub told_by : Result (Option Float) Refusal → Told Float
+told_by (Ok (Some ridge)) = gives ridge
+told_by (Ok None) = only not_solved
+told_by (Err r) = only (number_of r)
 
 -- the system's solution
 unfoldable pub solution_of : ℕ → ℕ → List Float → List Float → Solution
@@ -79,17 +78,17 @@ abbrev pub solution_for : System → Solution
 solution_for i = solution_of i.n i.c i.left i.right
 
 -- what an accepted call answers, and tells
-abbrev pub answer_by : Solution → SolveAnswer
-answer_by (solved ridge cells) = Solved ridge
-answer_by unsolved = Unsolved
+abbrev pub answer_by : Solution → Option Float
+answer_by (solved ridge cells) = Some ridge
+answer_by unsolved = None
 
 abbrev pub solution_told : Solution → Told Float
 solution_told (solved ridge cells) = gives ridge
 solution_told unsolved = only not_solved
 
 -- what a call with a status answers
-abbrev pub answer_of : (status : ℕ) → Solution → SolveAnswer
-answer_of status x = if_accepted status (answer_by x) (Refused status)
+abbrev pub answer_of : (status : ℕ) → Solution → Result (Option Float) Refusal
+answer_of status x = if_accepted status (Ok (answer_by x)) (Err (refusal_by status))
 
 -- ---- the slices
 
@@ -111,7 +110,7 @@ abbrev pub slices_after : System → Slices → Slices
 slices_after i s = if_accepted (status i s) (filled i s) s
 
 -- The contract of `solve`: the answer, what it tells, and both slices, each cell of them.
-pub record Solves (i : System) (s : Change Slices) (r : SolveAnswer) : Type 0 where
+pub record Solves (i : System) (s : Change Slices) (r : Result (Option Float) Refusal) : Type 0 where
   pub answer : r ≡ answer_of (status i s.entry) (solution_for i)
   pub told : told_by r ≡ told_for (status i s.entry) (solution_told (solution_for i))
   pub slices : s.exit ≡ slices_after i s.entry
@@ -128,7 +127,7 @@ pub record Accepted (i : System) (s : Slices) : Type 0 where
   pub solution_count : length s.solution ≡ i.n * i.c
 
 -- the first ridge that solves it is the answer, the workspace ends as +0.0
-pub record Searched (i : System) (s : Change Slices) (r : SolveAnswer) : Type 0 where
+pub record Searched (i : System) (s : Change Slices) (r : Option Float) : Type 0 where
   pub answer : r ≡ answer_by (solution_for i)
   pub cells : s.exit.workspace ≡ replicate (length s.entry.workspace) zero64
   pub solution : s.exit.solution ≡ written (solution_for i) s.entry.solution

@@ -1,19 +1,20 @@
 // The checks of a call, in document 01's order.
 ghost use Rattle.std.specs.Prelude.{◌≡◌, ◌&&◌, ◌*◌, ◌≤◌, eqb, leb};
 ghost use Rattle.status.specs.Limits.{max_order, max_columns};
+ghost use Rattle.status.specs.Status.{checked};
 ghost use Rattle.gauss.specs.Solve.{needed, outputs, status_by};
+
+use status::Refusal;
 
 // Whether `len` is a times b, whatever the two.
 fn is_product(len: usize, a: usize, b: usize) -> bool
     ensures { result ≡ eqb len (a * b) }
 {
     if a == 0 {
-        return len == 0;
+        len == 0
+    } else {
+        len % a == 0 && len / a == b
     }
-    if len % a == 0 {
-        return len / a == b;
-    }
-    false
 }
 
 // Whether the sides have n * n and n * c cells.
@@ -33,7 +34,7 @@ fn has_room(n: usize, c: usize, workspace: usize, solution: usize) -> bool
     (needed <= workspace) & (outputs <= solution)
 }
 
-// The status of a call: 1, 2, 3 or 0. What room a call needs is worked out for numbers within the limits alone.
+// The first check that fails. What room a call needs is worked out for numbers within the limits alone.
 pub(crate) fn check(
     left: usize,
     right: usize,
@@ -41,14 +42,11 @@ pub(crate) fn check(
     c: usize,
     workspace: usize,
     solution: usize,
-) -> u8
-    ensures { result ≡ status_by left right n c workspace solution }
+) -> Result<(), Refusal>
+    ensures { result ≡ checked (status_by left right n c workspace solution) }
 {
     let lengths = sides_fit(left, right, n, c);
     let limits = status::system_limits(n, c);
-    if !limits {
-        return status::first_failing(lengths, limits, true, status::ACCEPTED, true, true);
-    }
-    let room = has_room(n, c, workspace, solution);
-    status::first_failing(lengths, limits, room, status::ACCEPTED, true, true)
+    let room = limits && has_room(n, c, workspace, solution);
+    status::first_failing(lengths, limits, room, Ok(()), true, true)
 }

@@ -5,17 +5,10 @@ ghost use Rattle.gauss.specs.Solve.{system_at, system_of, slices_at, slices_of, 
 
 mod checks; // the checks, in document 01's order
 
-// What a call of `solve` answers: the ridge that solved the system, that none did, or that the call is refused with
-// this status.
-#[derive(Clone, Copy)]
-pub enum SolveAnswer {
-    Solved(f64),
-    Unsolved,
-    Refused(u8),
-}
+use status::Refusal;
 
 // The first ridge that solves the system; the solution is written only then. `cells` is the needed workspace and ends
-// as +0.0.
+// as +0.0. (regression walks the same ridges: what is made anew for each try differs, and the laws are shared.)
 fn first_solved(
     left: &[f64],
     right: &[f64],
@@ -23,7 +16,7 @@ fn first_solved(
     c: usize,
     cells: &mut [f64],
     solution: &mut [f64],
-) -> SolveAnswer
+) -> Option<f64>
     requires { Accepted (system_at left right n c) (slices_at cells solution) }
     ensures { Searched (system_of left right n c) (slices_of cells solution) result }
 {
@@ -33,17 +26,17 @@ fn first_solved(
         if elimination::solve_inner(cells, n, c, eps) {
             elimination::right_side(solution, &cells[..], n, c);
             matrix::zeros(cells);
-            return SolveAnswer::Solved(eps);
+            return Some(eps);
         }
-        eps = eps * 10.0;
+        eps *= 10.0;
     }
     matrix::zeros(cells);
-    SolveAnswer::Unsolved
+    None
 }
 
-// Solves left · x = right, left n rows of n cells and right n rows of c. Once the checks have passed, the first n *
-// n + n * c cells of `workspace` end as +0.0. `solution` gets the n * c cells of x if a ridge solves the system, and
-// keeps what it held otherwise.
+// Solves left · x = right, left n rows of n cells and right n rows of c, and answers the ridge that solved it: none
+// where no ridge does. Once the checks have passed, the first n * n + n * c cells of `workspace` end as +0.0.
+// `solution` gets the n * c cells of x if a ridge solves the system, and keeps what it held otherwise.
 pub fn solve(
     left: &[f64],
     right: &[f64],
@@ -51,28 +44,25 @@ pub fn solve(
     c: usize,
     workspace: &mut [f64],
     solution: &mut [f64],
-) -> SolveAnswer
+) -> Result<Option<f64>, Refusal>
     ensures { Solves (system_of left right n c) (slices_of workspace solution) result }
 {
-    let status = checks::check(
+    checks::check(
         left.len(),
         right.len(),
         n,
         c,
         workspace.len(),
         solution.len(),
-    );
-    if status != status::ACCEPTED {
-        return SolveAnswer::Refused(status);
-    }
+    )?;
     let outputs = matrix::cell_count(n, c);
     let needed = matrix::cell_count(n, n) + outputs;
-    first_solved(
+    Ok(first_solved(
         left,
         right,
         n,
         c,
         &mut workspace[..needed],
         &mut solution[..outputs],
-    )
+    ))
 }

@@ -3,25 +3,17 @@
 // that no ridge solves, else 0, the ridge and the solution's cells.
 #![tactic(auto)]
 
-ghost use Rattle.std.specs.Prelude.{◌≡◌, length, IfOk, ◌+◌, ◌*◌, ◌<◌, ◌≤◌};
+ghost use Rattle.std.specs.Prelude.{◌≡◌, length, IfOk, IfSome, ◌*◌, ◌≤◌};
 
-use gauss::SolveAnswer;
+use status::Refusal;
 use std::io;
 use std::io::Read;
-use vectors::Token;
 
-// A number that is at most `most`, or `most` and one more where the next line is none.
-fn number(input: &mut impl Read, most: u64) -> io::Result<u64>
-    requires { most < 1000 }
-    ensures { IfOk result (λ n. n ≤ most + 1) }
+// The next line's number, if it is at most `most`.
+fn number(input: &mut impl Read, most: u64) -> io::Result<Option<u64>>
+    ensures { IfOk result (λ o. IfSome o (λ n. n ≤ most)) }
 {
-    let Token::Value(v) = vectors::read_token(input)? else {
-        return Ok(most + 1);
-    };
-    if most < v {
-        return Ok(most + 1);
-    }
-    Ok(v)
+    Ok(vectors::read_token(input)?.filter(|v| *v <= most))
 }
 
 // The cells of n rows of c.
@@ -32,41 +24,32 @@ fn cells(n: usize, c: usize) -> usize
     matrix::cell_count(n, c)
 }
 
-// Cells for a left side, for a right side or a solution, and for the workspace. Each `ensures` gives only the length,
-// which lending a part needs.
-fn left_cells() -> [f64; 10000]
-    ensures { 10000 ≡ length result }
+// So many cells. The `ensures` gives only the length, which lending a part needs.
+fn blank_cells<const N: usize>() -> [f64; N]
+    ensures { N ≡ length result }
 {
-    [0.0; 10000]
-}
-
-fn right_cells() -> [f64; 800]
-    ensures { 800 ≡ length result }
-{
-    [0.0; 800]
-}
-
-fn workspace_cells() -> [f64; 10800]
-    ensures { 10800 ≡ length result }
-{
-    [0.0; 10800]
+    [0.0; N]
 }
 
 // Writes what a call answered.
-fn report(out: &impl Print, answer: SolveAnswer, solution: &[f64]) -> io::Result<()> {
+fn report(
+    out: &impl Print,
+    answer: Result<Option<f64>, Refusal>,
+    solution: &[f64],
+) -> io::Result<()> {
     match answer {
-        SolveAnswer::Solved(ridge) => {
+        Ok(Some(ridge)) => {
             vectors::write_token(out, 0)?;
-            vectors::write_f64(out, ridge)?;
-            vectors::write_f64s(out, solution)
+            vectors::write(out, ridge)?;
+            vectors::write_all(out, solution)
         }
-        SolveAnswer::Unsolved => vectors::write_token(out, 9),
-        SolveAnswer::Refused(status) => vectors::write_token(out, status as u64),
+        Ok(None) => vectors::write_token(out, status::NOT_SOLVED as u64),
+        Err(refusal) => vectors::write_token(out, refusal.number() as u64),
     }
 }
 
 // Answers one system of order n with c right columns, and says whether its cells were all there. The parts are those
-// of the program's arrays.
+// of the program's arrays, as many as `gauss::solve` takes.
 fn solve(
     out: &impl Print,
     input: &mut impl Read,
@@ -77,10 +60,7 @@ fn solve(
     workspace: &mut [f64],
     solution: &mut [f64],
 ) -> io::Result<bool> {
-    if !vectors::read_f64s(input, left)? {
-        return Ok(false);
-    }
-    if !vectors::read_f64s(input, right)? {
+    if !vectors::read_all(input, left)? || !vectors::read_all(input, right)? {
         return Ok(false);
     }
     let answer = gauss::solve(left, right, n, c, workspace, solution);
@@ -90,21 +70,18 @@ fn solve(
 
 // Answers the next system, and says whether there was one.
 fn replay(out: &impl Print, input: &mut impl Read) -> io::Result<bool> {
-    let n = number(input, 100)? as usize;
-    let c = number(input, 8)? as usize;
+    let (Some(n), Some(c)) = (number(input, 100)?, number(input, 8)?) else {
+        return Ok(false);
+    };
     if n < 1 {
         return Ok(false);
     }
-    if 100 < n {
-        return Ok(false);
-    }
-    if 8 < c {
-        return Ok(false);
-    }
-    let mut left = left_cells();
-    let mut right = right_cells();
-    let mut workspace = workspace_cells();
-    let mut solution = right_cells();
+    let n = n as usize;
+    let c = c as usize;
+    let mut left = blank_cells::<10000>();
+    let mut right = blank_cells::<800>();
+    let mut workspace = blank_cells::<10800>();
+    let mut solution = blank_cells::<800>();
     let lefts = cells(n, n);
     let outputs = cells(n, c);
     solve(
@@ -119,15 +96,6 @@ fn replay(out: &impl Print, input: &mut impl Read) -> io::Result<bool> {
     )
 }
 
-// A proved loop has to end: there are as many turns as the first line says.
 fn main(rt: HostRuntime) -> io::Result<()> {
-    let mut input = rt.reader();
-    let Token::Value(count) = vectors::read_token(&mut input)? else {
-        return Ok(());
-    };
-    let mut left = count;
-    while left > 0 && replay(&rt, &mut input)? {
-        left -= 1;
-    }
-    Ok(())
+    vectors::replay_counted(&mut rt.reader(), |input, _| replay(&rt, input))
 }

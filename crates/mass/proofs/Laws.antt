@@ -2,14 +2,12 @@
 use mathlib.Core.Path.{◌≡◌, refl, sym, ap, ◌∙◌}
 use mathlib.Core.Bool.{Bool, true, false, cond, ◌&&◌, true≢false, and-eq-true_iff}
 use mathlib.Core.List.{List, [], ◌∷◌}
-use Prim.Native.Nat.{ℕ, zero, suc, ◌+◌, ◌≤◌, ◌<◌}
-use native.Mathlib.Nat.{le_of_suc-le-suc, not-suc-le-zero}
+use Prim.Native.Nat.{ℕ, suc, ◌+◌, ◌≤◌, ◌<◌}
 use native.Mathlib.Omega.{arith}
 use lib.Dec.{eqb, leb, lit<}
 use borrow.Author.Tests.{leb-true, ne_eqb}
-use lib.ListN.{length, get_or}
-use Rattle.mass.specs.declared.Residue.TheVariants.{Letter, Outside}
-use Rattle.mass.specs.Mass.{valid_aa, place_from, column_of, is_letter, residue_in}
+use lib.ListN.{length}
+use Rattle.mass.specs.Mass.{valid_aa, place_from, column_of, is_letter}
 
 -- a place is below every bound that is above 0 and not below the places looked at
 place_below : (n i b : ℕ) (xs : List ℕ) → 0 < n → i + length xs ≤ n → place_from i b xs < n
@@ -49,16 +47,3 @@ not_placed b i (x ∷ xs) l f =
 pub no_letter_column : (b : ℕ) → is_letter b ≡ false → column_of b ≡ 0
 unfolding column_of valid_aa letters
 no_letter_column b f = not_placed b 0 valid_aa refl f
-
--- the residue at a place within the list, and past its end
-pub residue_in_lem : (i : ℕ) (xs : List ℕ) → i < length xs → residue_in i xs ≡ Letter (get_or xs i 0)
-unfolding residue_in
-residue_in_lem i [] h = absurd (not-suc-le-zero h)
-residue_in_lem zero (x ∷ xs) h = refl
-residue_in_lem (suc i) (x ∷ xs) h = residue_in_lem i xs (le_of_suc-le-suc h)
-
-pub residue_past : (i : ℕ) (xs : List ℕ) → length xs ≤ i → residue_in i xs ≡ Outside
-unfolding residue_in
-residue_past i [] h = refl
-residue_past zero (x ∷ xs) h = absurd (not-suc-le-zero h)
-residue_past (suc i) (x ∷ xs) h = residue_past i xs (le_of_suc-le-suc h)

@@ -1,7 +1,5 @@
 -- VALID_AA of sage's mass.rs and the column of a letter, as document 01 has them.
-use Rattle.std.specs.Prelude.{ℕ, zero, suc, Bool, cond, ◌&&◌, List, [], ◌∷◌, eqb, leb}
-use Rattle.mass.specs.declared.Residue.{Residue}
-use Rattle.mass.specs.declared.Residue.TheVariants.{Letter, Outside}
+use Rattle.std.specs.Prelude.{ℕ, suc, Bool, cond, ◌&&◌, List, [], ◌∷◌, eqb, leb, Option, slice_get}
 
 -- the bytes of ACDEFGHIKLMNPQRSTVWYUO
 unfoldable pub valid_aa : List ℕ
@@ -22,12 +20,6 @@ column_of b = place_from 0 b valid_aa
 abbrev pub is_letter : ℕ → Bool
 is_letter b = leb 65 b && leb b 90
 
--- the residue at a place of the list, where there is one
-unfoldable pub residue_in : ℕ → List ℕ → Residue
-residue_in i [] = Outside
-residue_in zero (x ∷ xs) = Letter x
-residue_in (suc i) (x ∷ xs) = residue_in i xs
-
--- the residue that a column stands for
-unfoldable pub residue_at : ℕ → Residue
-residue_at i = residue_in i valid_aa
+-- the residue that a column stands for, where there is one
+unfoldable pub residue_at : ℕ → Option ℕ
+residue_at i = slice_get valid_aa i

@@ -7,21 +7,15 @@ ghost use Rattle.mass.specs.Mass.{column_of, is_letter, residue_at};
 // The residues that have a column of their own, in the order of their columns.
 pub const VALID_AA: [u8; 22] = *b"ACDEFGHIKLMNPQRSTVWYUO";
 
-// What stands at a column.
-#[derive(Clone, Copy)]
-pub enum Residue {
-    Letter(u8),
-    Outside,
-}
-
 // Whether a byte is a letter from A to Z.
 pub fn is_letter(byte: u8) -> bool
     ensures { result ≡ is_letter byte }
 {
-    b'A' <= byte && byte <= b'Z'
+    byte.is_ascii_uppercase()
 }
 
-// A letter's place in the alphabet, A's being 0, and Z's for a byte that is no letter: neither has a column of its own.
+// A letter's place in the alphabet, A's being 0, and Z's for a byte that is no letter: neither has a column of its own,
+// so no Option: `column` has one answer for both.
 fn alphabet_place(byte: u8) -> u8
     ensures { (result ≤ 25) × (column_of (65 + result) ≡ column_of byte) }
 {
@@ -67,13 +61,9 @@ pub fn column(letter: u8) -> usize
     }
 }
 
-// The residue that a column stands for.
-pub fn residue_at(column: usize) -> Residue
+// The residue that a column stands for, where there is one.
+pub fn residue_at(column: usize) -> Option<u8>
     ensures { result ≡ residue_at column }
 {
-    if column < 22 {
-        Residue::Letter(VALID_AA[column])
-    } else {
-        Residue::Outside
-    }
+    VALID_AA.get(column).copied()
 }

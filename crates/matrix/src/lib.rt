@@ -1,6 +1,6 @@
 // Matrices that lie row by row in a slice, after sage's matrix.rs: the place of a cell, a row as a part, a checked
-// read, two rows exchanged, and the column cursor. A place is always worked out in 32 bits; who walks the rows in turn
-// adds a row's length instead.
+// read, two rows exchanged, and the column cursor. The shape stands beside the slice, as the C interface has it. A
+// place is always worked out in 32 bits; who walks the rows in turn adds a row's length instead.
 #![tactic(auto)]
 
 ghost use Rattle.std.specs.Prelude.{◌≡◌, ◌+◌, ◌*◌, ◌^◌, ◌≤◌, ◌<◌, length, replicate};
@@ -43,34 +43,17 @@ pub fn row_slice(cells: &[f64], row: u32, cols: u32) -> &[f64]
     &cells[start..end]
 }
 
-// What a checked read finds.
-#[derive(Clone, Copy)]
-pub enum Cell {
-    Value(f64),
-    Outside,
-}
-
-// The cell in a row and a column of a matrix of rows × cols cells (Rust's Matrix::get), for any numbers: outside
-// where the matrix has no such row or column or the slice ends before it. A cell whose place does not fit 32 bits is
-// outside too.
-pub fn get(cells: &[f64], rows: u32, cols: u32, row: u32, col: u32) -> Cell
+// The cell in a row and a column of a matrix of rows × cols cells (Rust's Matrix::get), for any numbers: none
+// where the matrix has no such row or column or the slice ends before it, or the cell's place does not fit 32 bits.
+pub fn get(cells: &[f64], rows: u32, cols: u32, row: u32, col: u32) -> Option<f64>
     ensures { result ≡ cell_of rows cols row col cells.now }
 {
-    if rows <= row {
-        return Cell::Outside;
+    if rows <= row || cols <= col {
+        return None;
     }
-    if cols <= col {
-        return Cell::Outside;
-    }
-    if (0xffff_ffff - col) / cols < row {
-        return Cell::Outside;
-    }
-    let at = (row * cols + col) as usize;
-    if at < cells.len() {
-        Cell::Value(float::canonical64(cells[at]))
-    } else {
-        Cell::Outside
-    }
+    let at = row.checked_mul(cols)?.checked_add(col)?;
+    let cell = cells.get(at as usize)?;
+    Some(float::canonical64(*cell))
 }
 
 // A cursor that walks down a column (Rust's Iter over Col): the row that it reads next, and the column.
@@ -78,13 +61,6 @@ pub fn get(cells: &[f64], rows: u32, cols: u32, row: u32, col: u32) -> Cell
 pub struct Col {
     pub row: u32,
     pub col: u32,
-}
-
-// What a step of the cursor gives: the cell and the cursor one row further down, or the column's end.
-#[derive(Clone, Copy)]
-pub enum ColStep {
-    Value(f64, Col),
-    Done,
 }
 
 impl Col {
@@ -95,17 +71,15 @@ impl Col {
         Self { row: 0, col }
     }
 
-    // The cell at the cursor, in a matrix of rows × cols cells.
-    pub fn next(self, cells: &[f64], rows: u32, cols: u32) -> ColStep
+    // The cell at the cursor, in a matrix of rows × cols cells, and the cursor one row further down; none at the
+    // column's end.
+    pub fn next(self, cells: &[f64], rows: u32, cols: u32) -> Option<(f64, Col)>
         ensures { result ≡ step_of rows cols self cells.now }
     {
         let row = self.row;
         let col = self.col;
-        let found = get(cells, rows, cols, row, col);
-        match found {
-            Cell::Value(value) => ColStep::Value(value, Col { row: row + 1, col }),
-            Cell::Outside => ColStep::Done,
-        }
+        let value = get(cells, rows, cols, row, col)?;
+        Some((value, Col { row: row + 1, col }))
     }
 }
 
@@ -116,12 +90,8 @@ pub fn swap_rows_at(cells: &mut [f64], cols: usize, a: usize, b: usize)
     ensures { (t : TwoRows cols a b (length cells.old))
         → cells.new ≡ flat (swapped t.i t.j (rows_of cols t.rows cells.old)) }
 {
-    let mut k = 0usize;
-    while k < cols {
-        let tmp = cells[a + k];
-        cells[a + k] = cells[b + k];
-        cells[b + k] = tmp;
-        k += 1;
+    for k in 0..cols {
+        cells.swap(a + k, b + k);
     }
 }
 
@@ -140,9 +110,5 @@ pub fn swap_rows(cells: &mut [f64], rows: u32, cols: u32, i: u32, j: u32)
 pub fn zeros(cells: &mut [f64])
     ensures { cells.new ≡ replicate (length cells.old) zero64 }
 {
-    let mut k = 0usize;
-    while k < cells.len() {
-        cells[k] = 0.0;
-        k += 1;
-    }
+    cells.fill(0.0);
 }

@@ -2,16 +2,17 @@
 use mathlib.Core.Path.{◌≡◌, refl, sym, ap, ◌∙◌}
 use mathlib.Core.Bool.{Bool, true, false, ◌&&◌}
 use mathlib.Core.List.{List, [], ◌∷◌, ◌++◌}
-use Prim.Native.Nat.{ℕ, ◌^◌, ◌≤◌}
+use Prim.Native.Nat.{ℕ, ◌^◌, ◌≤◌, ◌<◌}
 use native.Mathlib.Omega.{arith}
 use lib.ListN.{length}
 use lib.Ieee.{Float, nan}
 use Rattle.float.specs.Number.{number}
 use Rattle.float.specs.Value.{is_finite}
 use Rattle.status.specs.Checks.{every}
-use Rattle.status.specs.Limits.{max_letters}
 use Rattle.status.proofs.Laws.{every_all}
 use Rattle.embedding.specs.Design.{everywhere, n_terminal, c_terminal, chosen, block, retention_row, design}
+use Rattle.embedding.specs.Row.{row_of}
+use Rattle.embedding.specs.declared.Ion.{Ion}
 use Rattle.embedding.specs.declared.Model.{Model}
 use Rattle.embedding.specs.declared.Model.TheVariants.{Retention}
 use Rattle.embedding.proofs.Numbers.{number_finite}
@@ -45,7 +46,7 @@ and_last : (a : Bool) → a && true ≡ a
 and_last true = refl
 and_last false = refl
 
-retention_finite : (letters : List ℕ) (log : Float) → length letters ≤ max_letters
+retention_finite : (letters : List ℕ) (log : Float) → length letters < 2 ^ 32
     → every is_finite (retention_row letters log) ≡ is_finite log
 unfolding retention_row every
 retention_finite letters log h =
@@ -57,16 +58,15 @@ retention_finite letters log h =
     ∙ rw (number_finite (length letters) (omega arith), number_finite 1 (omega arith)) (and_last (is_finite log))
 
 -- a listed sample of retention's
-pub sample_finite : (model : Model) → model ≡ Retention → (letters : List ℕ) (log mass y : Float) (charge : ℕ)
-    (places : List ℕ) (values : List Float) → length letters ≤ max_letters
-    → Nonzeros 0 (extended (sample_from (design model letters log mass charge) y)) places values
-    → is_finite log && is_finite y ≡ all_finite values
+pub sample_finite : (model : Model) → model ≡ Retention → (ion : Ion) (y : Float) (places : List ℕ) (values : List Float)
+    → Nonzeros 0 (extended (sample_from (row_of model ion) y)) places values
+    → is_finite ion.log && is_finite y ≡ all_finite values
 unfolding design every
-sample_finite model e letters log mass y charge places values h l =
+sample_finite model e ion y places values l =
     sym
     (ap all_finite l.values_are
-    ∙ finite_cells (extended (sample_from (design model letters log mass charge) y))
-    ∙ ap (λ (m : Model). every is_finite (extended (sample_from (design m letters log mass charge) y))) e
-    ∙ every_append (retention_row letters log) (y ∷ [])
-    ∙ ap (λ (b : Bool). b && (is_finite y && true)) (retention_finite letters log h)
-    ∙ ap (λ (b : Bool). is_finite log && b) (and_last (is_finite y)))
+    ∙ finite_cells (extended (sample_from (row_of model ion) y))
+    ∙ ap (λ (m : Model). every is_finite (extended (sample_from (row_of m ion) y))) e
+    ∙ every_append (retention_row ion.letters.now ion.log) (y ∷ [])
+    ∙ ap (λ (b : Bool). b && (is_finite y && true)) (retention_finite ion.letters.now ion.log ion.short)
+    ∙ ap (λ (b : Bool). is_finite ion.log && b) (and_last (is_finite y)))

@@ -1,6 +1,6 @@
 -- Laws of the status: its value by the values of the checks, and what a call that is accepted has passed.
 use mathlib.Core.Path.{◌≡◌, refl}
-use mathlib.Core.Bool.{Bool, true}
+use mathlib.Core.Bool.{Bool, true, false, cond}
 use mathlib.Core.List.{List, [], ◌∷◌}
 use Prim.Native.Nat.{ℕ, ◌<◌}
 use native.Mathlib.Omega.{arith}
@@ -8,10 +8,11 @@ use lib.Dec.{eqb}
 use lib.ListN.{length, get_or}
 use Rattle.status.specs.Checks.{every, lengths_agree, all_below}
 use Rattle.status.specs.Limits.{within_row_limits}
-use Rattle.status.specs.Status.{accepted, bad_lengths, past_limit, too_short, bad_file, bad_peptide, first_failing}
+use Rattle.status.specs.Status.{accepted, bad_lengths, past_limit, too_short, bad_file, bad_peptide, bad_letter, bad_offsets}
+use Rattle.status.specs.Status.{first_failing, number_of, refusal_by, status_of, checked}
 use Rattle.status.proofs.Laws.{and_true, below_at, length_at, row_limits}
 use Rattle.status.proofs.First.{passed_at_lem}
-use Rattle.peptide.specs.Table.{Table, table_status}
+use Rattle.peptide.specs.Table.{Table, offsets_right, letters_right, table_status}
 use Rattle.peptide.proofs.Laws.{table_first, offsets_peptide}
 use Rattle.embedding.specs.declared.Model.{Model}
 use Rattle.embedding.specs.declared.Model.TheVariants.{Retention, Mobility}
@@ -40,6 +41,18 @@ status_is model i room a b t f one two table five =
     let last : List (ℕ × Bool) = (bad_peptide, all_below peptides i.peptides) ∷ [] in
     rw (one, two, table, five, table_first t.letters t.offsets peptides last)
 
+-- the status of what the table's checks answer
+pub table_checked : (letters offsets : List ℕ) (peptides : ℕ)
+    → status_of (checked (table_status letters offsets peptides)) ≡ table_status letters offsets peptides
+unfolding table_status
+table_checked letters offsets peptides =
+    by_tests (offsets_right peptides (length letters) offsets) (letters_right letters)
+  where
+    by_tests : (a b : Bool) → let s = cond a (cond b accepted bad_letter) bad_offsets in status_of (checked s) ≡ s
+    by_tests true true = refl
+    by_tests true false = refl
+    by_tests false b = refl
+
 -- the columns' lengths
 record Long (i : Input) : Type 0 where
   labels : length i.labels ≡ length i.peptides
@@ -67,6 +80,28 @@ long Mobility i e =
       qs = length_at n ls 1 e (omega arith);
       observed = length_at n ls 3 e (omega arith);
     }
+
+-- the number of a refusal is the status that refuses
+pub refused_number : (model : Model) (i : Input) (room : Bool) → (status_by model i room ≡ accepted → ⊥)
+    → number_of (refusal_by (status_by model i room)) ≡ status_by model i room
+unfolding status_by
+refused_number model i room =
+    by_tests (lengths_right model i) (within_row_limits (length i.peptides) (length i.table.masses)) room
+    (offsets_right (length i.table.masses) (length i.table.letters) i.table.offsets) (letters_right i.table.letters)
+    (all_below (length i.table.masses) i.peptides)
+  where
+    by_tests : (a b c d e f : Bool)
+        → let n =
+        first_failing
+        ((bad_lengths, a) ∷ (past_limit, b) ∷ (too_short, c) ∷ (bad_offsets, d) ∷ (bad_letter, e) ∷ (bad_peptide, f) ∷ []) in
+        (n ≡ accepted → ⊥) → number_of (refusal_by n) ≡ n
+    by_tests false b c d e f h = refl
+    by_tests true false c d e f h = refl
+    by_tests true true false d e f h = refl
+    by_tests true true true false e f h = refl
+    by_tests true true true true false f h = refl
+    by_tests true true true true true false h = refl
+    by_tests true true true true true true h = absurd (h refl)
 
 -- an accepted call has passed all checks
 module _ (model : Model) (i : Input) (room : Bool) (accept : status_by model i room ≡ accepted) where

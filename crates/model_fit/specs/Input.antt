@@ -1,7 +1,6 @@
 -- What a call of either model is passed, the checks of it in document 01's order, and the status. Definitions only.
 use Rattle.std.specs.Prelude.{Bool, ◌&&◌, ℕ, leb, ℤ, Float, length}
 use mathlib.Core.List.{List, [], ◌∷◌, head_d, tail}
-use Rattle.params.specs.Slice.{Held, Slice}
 use Rattle.status.specs.Checks.{lengths_agree, all_below}
 use Rattle.status.specs.Limits.{within_row_limits}
 use Rattle.status.specs.Status.{bad_lengths, past_limit, too_short, bad_offsets, bad_letter, bad_peptide, first_failing}
@@ -10,6 +9,8 @@ use Rattle.embedding.specs.Design.{order_of}
 use Rattle.embedding.specs.declared.Model.{Model}
 use Rattle.embedding.specs.declared.Model.TheVariants.{Retention, Mobility}
 use Rattle.regression.specs.Workspace.{workspace_cells}
+use Rattle.model_fit.specs.declared.Table.{Table as HeldTable}
+use Rattle.model_fit.specs.declared.Input.{Input as HeldInput}
 
 -- The rows' columns and the peptide table. Retention observes aligned times and has no charges; mobility observes
 -- mobilities and has no logs.
@@ -36,28 +37,22 @@ input_of peptides labels qs charges observed letters offsets masses logs =
       table = table_of letters offsets masses logs;
     }
 
--- ---- as a function's parameters hold them
+-- ---- as the program's structs hold them: `input_at i` in a `requires`, `input_at i.entry` in an `ensures`
 
--- in a `requires`
-abbrev pub table_at : (letters offsets : Held ℕ) (masses logs : Held Float) → Table
-table_at letters offsets masses logs = table_of letters.now offsets.now masses.now logs.now
+abbrev pub table_at : HeldTable → Table
+table_at t = table_of t.letters.now t.offsets.now t.masses.now t.logs.now
 
-abbrev pub input_at : (peptide : Held ℕ) (label : Held ℤ) (q : Held Float) (charge : Held ℕ)
-    (observed : Held Float) (letters offsets : Held ℕ) (masses logs : Held Float) → Input
-input_at peptide label q charge observed letters offsets masses logs =
-    input_of
-    peptide.now label.now q.now charge.now observed.now letters.now offsets.now masses.now logs.now
-
--- in an `ensures`: what is read as the call begins
-abbrev pub table_in : (letters offsets : Slice ℕ) (masses logs : Slice Float) → Table
-table_in letters offsets masses logs = table_at letters.entry offsets.entry masses.entry logs.entry
-
-abbrev pub model_input : (peptide : Slice ℕ) (label : Slice ℤ) (q : Slice Float)
-    (charge : Slice ℕ) (observed : Slice Float) (letters offsets : Slice ℕ) (masses logs : Slice Float) → Input
-model_input peptide label q charge observed letters offsets masses logs =
-    input_at
-    peptide.entry label.entry q.entry charge.entry observed.entry
-    letters.entry offsets.entry masses.entry logs.entry
+abbrev pub input_at : HeldInput → Input
+input_at i =
+    let r = i.rows in
+    record {
+      peptides = r.peptide.now;
+      labels = r.label.now;
+      qs = r.q.now;
+      charges = r.charge.now;
+      observed = r.observed.now;
+      table = table_at i.table;
+    }
 
 -- ---- what a prediction reads of a row
 

@@ -6,7 +6,7 @@ use Rattle.feature.specs.Feature.{mask, kept}
 use Rattle.peptide.specs.Table.{Table, sequence_of}
 use Rattle.embedding.specs.Design.{order_of, design}
 use Rattle.embedding.specs.declared.Model.{Model}
-use Rattle.regression.specs.Regression.{Sample, Fit, fit_of}
+use Rattle.regression.specs.Regression.{Sample, Fitting, fit_of}
 use Rattle.model_fit.specs.Input.{Input, Query, queries}
 
 -- the design row of a peptide of the table
@@ -30,5 +30,5 @@ abbrev pub training_samples : Model → Input → List Sample
 training_samples model i = kept (mask i.labels i.qs) (samples model i)
 
 -- the fit to them; its coefficients are none where it is not solved
-abbrev pub fit_of_input : Model → Input → Fit
+abbrev pub fit_of_input : Model → Input → Fitting
 fit_of_input model i = fit_of (order_of model) (training_samples model i)

@@ -1,77 +1,48 @@
 // The checks of a call, in document 01's order, for both models and for fits and predictions.
 ghost use Rattle.std.specs.Prelude.{◌≡◌};
-ghost use Rattle.model_fit.specs.Input.{model_input, columns_agree, fit_room, status_by};
+ghost use Rattle.status.specs.Status.{checked};
+ghost use Rattle.model_fit.specs.Input.{input_at, lengths_right, fit_room, status_by};
 
+use crate::Input;
 use embedding::Model;
+use status::Refusal;
 
 // Whether a workspace and a coefficient list of these lengths are long enough for a fit.
 pub fn fit_room(model: Model, workspace: usize, beta: usize) -> bool
     ensures { result ≡ fit_room model workspace beta }
 {
-    let d = embedding::order(model);
-    if workspace < regression::workspace_cells(d) {
-        return false;
-    }
-    d <= beta
+    let d = model.order();
+    regression::workspace_cells(d) <= workspace && d <= beta
 }
 
-// Whether the columns of these lengths that belong together have one length: check 1.
-fn columns_agree(
-    model: Model,
-    rows: usize,
-    labels: usize,
-    qs: usize,
-    charges: usize,
-    observed: usize,
-    peptides: usize,
-    logs: usize,
-) -> bool
-    ensures { result ≡ columns_agree model rows labels qs charges observed peptides logs }
+// Whether the columns that belong together have one length: check 1.
+fn lengths_agree(model: Model, input: Input) -> bool
+    ensures { result ≡ lengths_right model (input_at input.entry) }
 {
+    let Input { rows, table } = input;
+    let n = rows.peptide.len();
+    let labels = rows.label.len();
+    let qs = rows.q.len();
+    let observed = rows.observed.len();
     match model {
         Model::Retention => {
-            if !status::same_lengths(rows, labels, qs, observed, rows) {
-                return false;
-            }
-            logs == peptides
+            status::same_lengths(n, labels, qs, observed, n)
+                && table.logs.len() == table.masses.len()
         }
-        Model::Mobility => status::same_lengths(rows, labels, qs, charges, observed),
+        Model::Mobility => status::same_lengths(n, labels, qs, rows.charge.len(), observed),
     }
 }
 
-// The status of a call: 1, 2, 3 (not `room`), 7, 6, 5 or 0. Each check goes over the whole input, and the first that
-// fails is answered.
-pub fn check(
-    model: Model,
-    peptide: &[u32],
-    label: &[i32],
-    q: &[f32],
-    charge: &[u8],
-    observed: &[f32],
-    letters: &[u8],
-    offsets: &[u32],
-    masses: &[f32],
-    logs: &[f64],
-    room: bool,
-) -> u8
-    ensures { result ≡ status_by model
-        (model_input peptide label q charge observed letters offsets masses logs)
-        room }
+// The checks of a call: 1, 2, 3 (not `room`), 7, 6 or 5 where one fails. Each goes over the whole input, and the first
+// that fails is answered.
+pub fn check(model: Model, input: Input, room: bool) -> Result<(), Refusal>
+    ensures { result ≡ checked (status_by model (input_at input.entry) room) }
 {
-    let rows = peptide.len();
-    let peptides = masses.len();
-    let lengths = columns_agree(
-        model,
-        rows,
-        label.len(),
-        q.len(),
-        charge.len(),
-        observed.len(),
-        peptides,
-        logs.len(),
-    );
-    let limits = status::row_limits(rows, peptides);
-    let table = peptide::check_table(letters, offsets, peptides);
-    let peptides_right = status::all_below(peptide, peptides);
-    status::first_failing(lengths, limits, room, table, true, peptides_right)
+    let Input { rows, table } = input;
+    let peptides = table.masses.len();
+    let lengths = lengths_agree(model, input);
+    let limits = status::row_limits(rows.peptide.len(), peptides);
+    let table_right = peptide::check_table(table.letters, table.offsets, peptides);
+    let peptides_right = status::all_below(rows.peptide, peptides);
+    status::first_failing(lengths, limits, room, table_right, true, peptides_right)
 }

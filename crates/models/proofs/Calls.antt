@@ -9,36 +9,33 @@ use lib.Dec.{eqb, leb}
 use lib.Ieee.{Float}
 use lib.ListN.{length, take, drop, replicate, length-append, length-drop, length-replicate}
 use lib.Seq.{length-take-le, take_at}
-use borrow.Author.Tests.{leb-true}
+use borrow.Author.Tests.{leb-true, eqb-true, eqb-false}
 use Rattle.params.specs.Slice.{Change, change}
 use Rattle.float.specs.Number.{zero64}
-use Rattle.status.specs.Status.{accepted}
+use Rattle.std.specs.Prelude.{⊤, Result, Ok, Err}
+use Rattle.status.specs.Status.{accepted, refusal_by, checked}
+use Rattle.status.specs.declared.Refusal.{Refusal}
 use Rattle.status.proofs.Told.{if_accepted_lem, if_refused}
-use Rattle.status.specs.Told.{if_accepted, told_for}
+use Rattle.status.specs.Told.{Told, only, told_for}
 use Rattle.status.proofs.Laws.{and_true}
 use Rattle.embedding.specs.Design.{order_of}
 use Rattle.embedding.specs.declared.Model.{Model}
-use Rattle.regression.specs.Regression.{Fit, sse, told_by as outcome_told}
+use Rattle.regression.specs.Regression.{Outcome, sse, told_by as outcome_told}
 use Rattle.regression.specs.Workspace.{FitSlices, workspace_cells}
-use Rattle.regression.specs.declared.Sums.{Sums}
-use Rattle.regression.specs.declared.FitOutcome.{FitOutcome}
-use Rattle.regression.specs.declared.FitOutcome.TheVariants.{Solved, NoTrainingRows, NotSolved}
-use Rattle.model_fit.specs.Input.{Input, queries, fit_room}
+use Rattle.regression.specs.declared.Fit.{Fit}
+use Rattle.regression.specs.declared.Unfitted.{Unfitted}
+use Rattle.model_fit.specs.Input.{Input, queries, fit_room, status_by}
 use Rattle.model_fit.specs.Samples.{training_samples, fit_of_input}
 use Rattle.model_fit.specs.Shared.{FittedBy, outcome_of, SolvedRows}
-use Rattle.model_fit.specs.declared.training.Solving.{Solving}
-use Rattle.model_fit.specs.declared.training.Solving.TheVariants.{Solved as SolvedWith, NotSolved as Unsolved}
-use Rattle.model_fit.specs.declared.training.Solving.TheVariants.{NoTrainingRows as NoRows}
+use Rattle.model_fit.specs.declared.training.Solved.{Solved}
+use Rattle.model_fit.proofs.Status.{refused_number}
 use Rattle.matrix.specs.Lists.{overwritten}
 use Rattle.matrix.proofs.Lists.{overwrite_part, zip_with_append, zip_with_none}
-use Rattle.models.specs.declared.FitAnswer.{FitAnswer}
-use Rattle.models.specs.declared.FitAnswer.TheVariants.{Fitted, Refused}
 use Rattle.models.specs.declared.PredictOutcome.{PredictOutcome}
-use Rattle.models.specs.declared.PredictAnswer.{PredictAnswer}
-use Rattle.models.specs.declared.PredictAnswer.TheVariants.{Predicted, Refused as Unpredicted}
 use Rattle.models.specs.Prediction.{is_solved, prediction_of, error_of, predictions, errors, inexact_in, inexact}
-use Rattle.models.specs.Call.{PredictSlices, fit_part, answer_of, told_by, predict_room, fit_status, predict_status}
-use Rattle.models.specs.Call.{predict_outcome, predict_answer_of, predict_outcome_told, predict_told}
+use Rattle.models.specs.Call.{PredictSlices, fit_part, answer_of, told_by, predict_room, fit_room_in, predict_room_in}
+use Rattle.models.specs.Call.{fit_status, predict_status}
+use Rattle.models.specs.Call.{predict_outcome, predict_outcome_told}
 use Rattle.models.specs.Call.{fit_filled, predict_filled, FittedWithin, SolvedWithin, PredictedWithin}
 use Rattle.models.specs.Call.{FitCall, PredictCall}
 use Rattle.models.proofs.Writing.{length_predictions}
@@ -68,21 +65,14 @@ predict_room_lem model rows workspace beta predicted error e =
     let b = and_true (leb rows predicted) (leb rows error) a.1 in
     record { fitted = a.0; predictions = leb-true _ _ b.0; errors = leb-true _ _ b.1 }
 
--- three tests, one after the other
-pub and_is : (a b c a₁ b₁ c₁ : Bool) → a ≡ a₁ → b ≡ b₁ → c ≡ c₁
-    → (a₁ && (b₁ && c₁)) ≡ (a && (b && c))
-and_is a b c a₁ b₁ c₁ ea eb ec = rw (ea, eb, ec)
-
 -- ---- a fit on the first cells of longer slices
 
 -- what holds of a solved fit, by its test
-if_solved : (o : FitOutcome) (P : Type 0) → is_solved o ≡ true
-    → ((ridge r2 : Float) (n : ℕ) → o ≡ Solved ridge r2 n → P) → P
-if_solved (Solved ridge r2 n) P e h = h ridge r2 n refl
-if_solved NoTrainingRows P e h = let z : ◌≡◌ {A = ℕ} 0 1 = cc in absurd (omega arith)
-if_solved NotSolved P e h = let z : ◌≡◌ {A = ℕ} 0 1 = cc in absurd (omega arith)
+if_solved : (o : Outcome) (P : Type 0) → is_solved o ≡ true → ((f : Fit) → o ≡ Ok f → P) → P
+if_solved (Ok f) P e h = h f refl
+if_solved (Err u) P e h = let z : ◌≡◌ {A = ℕ} 0 1 = cc in absurd (omega arith)
 
-pub fitted_within : (model : Model) (i : Input) (k d : ℕ) (s t : FitSlices) (r : FitOutcome)
+pub fitted_within : (model : Model) (i : Input) (k d : ℕ) (s t : FitSlices) (r : Outcome)
     → k ≡ workspace_cells (order_of model)
     → d ≡ order_of model
     → k ≤ length s.workspace
@@ -121,11 +111,11 @@ fitted_within model i k d s t r ek ed hk hd kept f =
     record {
       outcome = f.outcome;
       slices = λ j. record { workspace = workspace_is j; coefficients = coefficients_is j };
-      long = λ e. if_solved r _ e (λ ridge r2 n told. f.long ridge r2 n told ∙ td ∙ ed);
+      long = λ e. if_solved r _ e (λ fit told. f.long fit told ∙ td ∙ ed);
     }
 
 -- the same of how far it was solved, with the squared errors of the coefficients that are kept
-pub solved_within : (model : Model) (i : Input) (k d : ℕ) (s t : FitSlices) (r : Solving)
+pub solved_within : (model : Model) (i : Input) (k d : ℕ) (s t : FitSlices) (r : Result Solved Unfitted)
     → k ≡ workspace_cells (order_of model)
     → d ≡ order_of model
     → k ≤ length s.workspace
@@ -150,26 +140,23 @@ solved_within model i k d s t r ek ed hk hd kept f =
 -- ---- by how far it was solved
 
 -- a fit that is solved, and one that isn't, as the arms of a `match` say it
-pub is_solved_lem : (r : Solving) (ridge : Float) (sums : Sums) (errors : Float) → r ≡ SolvedWith ridge sums
+pub is_solved_lem : (r : Result Solved Unfitted) (s : Solved) (errors : Float) → r ≡ Ok s
     → is_solved (outcome_of r errors) ≡ true
-is_solved_lem r ridge sums errors e = rw e
+is_solved_lem r s errors e = rw e
 
-pub not_solved_lem : (r : Solving) (errors : Float)
-    → ((ridge : Float) (sums : Sums) → r ≡ SolvedWith ridge sums → ⊥)
+pub not_solved_lem : (r : Result Solved Unfitted) (errors : Float) → ((s : Solved) → r ≡ Ok s → ⊥)
     → is_solved (outcome_of r errors) ≡ false
-not_solved_lem (SolvedWith ridge sums) errors h = absurd (h ridge sums refl)
-not_solved_lem NoRows errors h = refl
-not_solved_lem Unsolved errors h = refl
+not_solved_lem (Ok s) errors h = absurd (h s refl)
+not_solved_lem (Err u) errors h = refl
 
--- one that isn't has the same outcome with any squared errors
-same_unsolved : (r : Solving) (e₁ e₂ : Float) → is_solved (outcome_of r e₁) ≡ false
+-- it has the same outcome with any squared errors
+same_unsolved : (r : Result Solved Unfitted) (e₁ e₂ : Float) → is_solved (outcome_of r e₁) ≡ false
     → outcome_of r e₁ ≡ outcome_of r e₂
-same_unsolved (SolvedWith ridge sums) e₁ e₂ h = let z : ◌≡◌ {A = ℕ} 0 1 = cc in absurd (omega arith)
-same_unsolved NoRows e₁ e₂ h = refl
-same_unsolved Unsolved e₁ e₂ h = refl
+same_unsolved (Ok s) e₁ e₂ h = let z : ◌≡◌ {A = ℕ} 0 1 = cc in absurd (omega arith)
+same_unsolved (Err u) e₁ e₂ h = refl
 
-module _ (model : Model) (i : Input) (s : Change FitSlices) (r : Solving) (f : SolvedWithin model i s r)
-    (errors : Float) (o : FitOutcome) (is_outcome : o ≡ outcome_of r errors) where
+module _ (model : Model) (i : Input) (s : Change FitSlices) (r : Result Solved Unfitted) (f : SolvedWithin model i s r)
+    (errors : Float) (o : Outcome) (is_outcome : o ≡ outcome_of r errors) where
   pub completed : (d : ℕ) → d ≡ order_of model
       → errors ≡ sse (take d s.exit.coefficients) (training_samples model i)
       → FittedWithin model i s o
@@ -182,50 +169,66 @@ module _ (model : Model) (i : Input) (s : Change FitSlices) (r : Solving) (f : S
 
 -- ---- the status
 
--- what the answer tells, by a function of the answer
-told_by_lem : {A B : Type 0} (tell : A → B) (status : ℕ) (done refused : A)
-    → tell (if_accepted status done refused) ≡ if_accepted status (tell done) (tell refused)
-told_by_lem tell status done refused = by_test (eqb status accepted)
+-- checks with this status that refuse, and that accept
+pub refused_by : (n : ℕ) (r : Refusal) → checked n ≡ Err r → (n ≡ accepted → ⊥) × (r ≡ refusal_by n)
+refused_by n r e = by_test (eqb n accepted) refl e
   where
-    by_test : (b : Bool) → tell (cond b done refused) ≡ cond b (tell done) (tell refused)
-    by_test true = refl
-    by_test false = refl
+    by_test : (b : Bool) → eqb n accepted ≡ b → ◌≡◌ {A = Result ⊤ Refusal} (cond b (Ok tt) (Err (refusal_by n))) (Err r)
+        → (n ≡ accepted → ⊥) × (r ≡ refusal_by n)
+    by_test true t h = let z : ◌≡◌ {A = ℕ} 0 1 = cc in absurd (omega arith)
+    by_test false t h = (eqb-false n accepted t, cc)
 
-told_of : (status : ℕ) (fit : Fit) (r : FitAnswer) → r ≡ answer_of status fit
-    → told_by r ≡ told_for status (outcome_told fit.outcome)
-told_of status fit r e = ap told_by e ∙ told_by_lem told_by status (Fitted fit.outcome) (Refused status)
+pub accepted_by : (n : ℕ) (v : ⊤) → checked n ≡ Ok v → n ≡ accepted
+accepted_by n v e = by_test (eqb n accepted) refl e
+  where
+    by_test : (b : Bool) → eqb n accepted ≡ b → ◌≡◌ {A = Result ⊤ Refusal} (cond b (Ok tt) (Err (refusal_by n))) (Ok v) → n ≡ accepted
+    by_test true t h = eqb-true n accepted t
+    by_test false t h = let z : ◌≡◌ {A = ℕ} 0 1 = cc in absurd (omega arith)
 
-predict_told_lem : (status : ℕ) (p : PredictOutcome) (r : PredictAnswer) → r ≡ predict_answer_of status p
-    → predict_told r ≡ told_for status (predict_outcome_told p)
-predict_told_lem status p r e = ap predict_told e ∙ told_by_lem predict_told status (Predicted p) (Unpredicted status)
+-- what an answer tells
+module _ {A B : Type 0} (tell : A → Told B) (model : Model) (i : Input) (room : Bool) (done : A) where
+  told_lem : (r : Result A Refusal) → r ≡ answer_of (status_by model i room) done
+      → told_by tell r ≡ told_for (status_by model i room) (tell done)
+  told_lem r e = ap (told_by tell) e ∙ by_test (eqb (status_by model i room) accepted) refl
+    where
+      by_test : (b : Bool) → eqb (status_by model i room) accepted ≡ b
+          → told_by tell (cond b (Ok done) (Err (refusal_by (status_by model i room))))
+          ≡ cond b (tell done) (only (status_by model i room))
+      by_test true t = refl
+      by_test false t = ap only (refused_number model i room (eqb-false _ accepted t))
 
 -- ---- a call of `fit`
 
 module _ (model : Model) (i : Input) (s : FitSlices) where
-  pub fit_refused : (status : ℕ) → status ≡ fit_status model i s → (status ≡ accepted → ⊥)
-      → FitCall model i (change s s) (Refused status)
-  fit_refused status e ne =
+  pub fit_refused : (r : Refusal) → checked (fit_status model i s) ≡ Err r → FitCall model i (change s s) (Err r)
+  fit_refused r e =
       let n : ℕ = fit_status model i s in
-      let h : n ≡ accepted → ⊥ = λ z. ne (e ∙ z) in
-      let a : Refused status ≡ answer_of n (fit_of_input model i) = ap Refused e ∙ sym (if_refused n _ _ h) in
-      record { answer = a; told = told_of n (fit_of_input model i) _ a; slices = sym (if_refused n _ _ h) }
-
-  pub fit_accepted : (t : FitSlices) (r : FitOutcome) → fit_status model i s ≡ accepted
-      → FittedWithin model i (change s t) r
-      → FitCall model i (change s t) (Fitted r)
-  fit_accepted t r h f =
-      let n : ℕ = fit_status model i s in
-      let a : Fitted r ≡ answer_of n (fit_of_input model i) = ap Fitted f.outcome ∙ sym (if_accepted_lem n _ _ h) in
+      let h = refused_by n r e in
+      let done : Outcome = (fit_of_input model i).outcome in
+      let a : Err r ≡ answer_of n done = ap Err h.1 ∙ sym (if_refused n _ _ h.0) in
       record {
         answer = a;
-        told = told_of n (fit_of_input model i) _ a;
+        told = told_lem outcome_told model i (fit_room_in model s) done _ a;
+        slices = sym (if_refused n _ _ h.0);
+      }
+
+  pub fit_accepted : (t : FitSlices) (r : Outcome) → fit_status model i s ≡ accepted
+      → FittedWithin model i (change s t) r
+      → FitCall model i (change s t) (Ok r)
+  fit_accepted t r h f =
+      let n : ℕ = fit_status model i s in
+      let done : Outcome = (fit_of_input model i).outcome in
+      let a : Ok r ≡ answer_of n done = ap Ok f.outcome ∙ sym (if_accepted_lem n _ _ h) in
+      record {
+        answer = a;
+        told = told_lem outcome_told model i (fit_room_in model s) done _ a;
         slices = f.slices ∙ sym (if_accepted_lem n (fit_filled model i s) s h);
       }
 
 -- ---- a call of `predict`
 
 -- what is written and counted where the fit is solved, and where it is not
-module _ (model : Model) (i : Input) (s t : FitSlices) (r : FitOutcome) (f : FittedWithin model i (change s t) r) where
+module _ (model : Model) (i : Input) (s t : FitSlices) (r : Outcome) (f : FittedWithin model i (change s t) r) where
   coefficients_is : t.coefficients ≡ overwritten (fit_of_input model i).coefficients s.coefficients
   coefficients_is = ap (λ (x : FitSlices). x.coefficients) f.slices
 
@@ -303,29 +306,32 @@ predicted_within model i s t r f count_is predicted_is error_is =
     }
 
 module _ (model : Model) (i : Input) (s : PredictSlices) where
-  pub predict_refused : (status : ℕ) → status ≡ predict_status model i s → (status ≡ accepted → ⊥)
-      → PredictCall model i (change s s) (Unpredicted status)
-  predict_refused status e ne =
+  pub predict_refused : (r : Refusal) → checked (predict_status model i s) ≡ Err r
+      → PredictCall model i (change s s) (Err r)
+  predict_refused r e =
       let n : ℕ = predict_status model i s in
-      let h : n ≡ accepted → ⊥ = λ z. ne (e ∙ z) in
-      let a : Unpredicted status ≡ predict_answer_of n (predict_outcome model i) =
-      ap Unpredicted e ∙ sym (if_refused n _ _ h) in
-      record { answer = a; told = predict_told_lem n (predict_outcome model i) _ a; slices = sym (if_refused n _ _ h) }
+      let h = refused_by n r e in
+      let done : PredictOutcome = predict_outcome model i in
+      let a : Err r ≡ answer_of n done = ap Err h.1 ∙ sym (if_refused n _ _ h.0) in
+      record {
+        answer = a;
+        told = told_lem predict_outcome_told model i (predict_room_in model i s) done _ a;
+        slices = sym (if_refused n _ _ h.0);
+      }
 
   pub predict_accepted : (t : PredictSlices) (r : PredictOutcome) → predict_status model i s ≡ accepted
       → PredictedWithin model i (change s t) r
-      → PredictCall model i (change s t) (Predicted r)
+      → PredictCall model i (change s t) (Ok r)
   predict_accepted t r h f =
       let n : ℕ = predict_status model i s in
-      let outcome_is : r ≡ predict_outcome model i =
-      λ k. record { fit = f.fitted.outcome k; inexact = f.count k } in
-      let a : Predicted r ≡ predict_answer_of n (predict_outcome model i) =
-      ap Predicted outcome_is ∙ sym (if_accepted_lem n _ _ h) in
+      let done : PredictOutcome = predict_outcome model i in
+      let outcome_is : r ≡ done = λ k. record { fit = f.fitted.outcome k; inexact = f.count k } in
+      let a : Ok r ≡ answer_of n done = ap Ok outcome_is ∙ sym (if_accepted_lem n _ _ h) in
       let workspace_is = ap (λ (x : FitSlices). x.workspace) f.fitted.slices in
       let filled : t ≡ predict_filled model i s =
       λ k. record { workspace = workspace_is k; outputs = f.outputs k } in
       record {
         answer = a;
-        told = predict_told_lem n (predict_outcome model i) _ a;
+        told = told_lem predict_outcome_told model i (predict_room_in model i s) done _ a;
         slices = filled ∙ sym (if_accepted_lem n (predict_filled model i s) s h);
       }

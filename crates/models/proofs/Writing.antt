@@ -24,7 +24,7 @@ use Rattle.regression.specs.Regression.{dot}
 use Rattle.model_fit.specs.Input.{Query, query_of, queries}
 use Rattle.model_fit.specs.Samples.{design_of}
 use Rattle.matrix.proofs.Lists.{get_d_zip_with, overwrite_suc}
-use Rattle.model_fit.proofs.Rows.{length_queries, get_d_queries}
+use Rattle.model_fit.proofs.RowLaws.{length_queries, get_d_queries}
 use Rattle.models.specs.Prediction.{largest, bounded_of, prediction_of, inexact_in, error_of}
 
 -- one cell more, at k + 1 as the loops count

@@ -1,25 +1,27 @@
 -- What a call of `fit` and of `predict` answers, and the whole of each slice after it. Definitions only.
 use Rattle.std.specs.Prelude.{◌≡◌, Bool, true, ◌&&◌, List, [], ℕ, leb, ℤ, Float, length, replicate, take}
+use Rattle.std.specs.Prelude.{Result, Ok, Err}
 use Rattle.std.proofs.Math.Option.{Option, none, some}
-use Rattle.params.specs.Slice.{Held, MutHeld, Change, change, Slice, MutSlice}
+use Rattle.params.specs.Slice.{MutHeld, Change, change, Slice, MutSlice}
 use Rattle.float.specs.Number.{zero64}
 use Rattle.matrix.specs.Lists.{overwritten}
+use Rattle.status.specs.Status.{number_of, refusal_by}
 use Rattle.status.specs.Told.{Told, only, if_accepted, told_for}
+use Rattle.status.specs.declared.Refusal.{Refusal}
 use Rattle.embedding.specs.Design.{order_of}
 use Rattle.embedding.specs.declared.Model.{Model}
-use Rattle.regression.specs.Regression.{Fit, Values, sse, told_by as outcome_told}
+use Rattle.regression.specs.Regression.{Outcome, sse, told_by as outcome_told}
 use Rattle.regression.specs.Workspace.{FitSlices, workspace_cells}
-use Rattle.regression.specs.declared.FitOutcome.{FitOutcome}
-use Rattle.model_fit.specs.Input.{Input, input_of, status_by, fit_room}
+use Rattle.regression.specs.declared.Fit.{Fit}
+use Rattle.regression.specs.declared.Unfitted.{Unfitted}
+use Rattle.model_fit.specs.Input.{Input, input_of, input_at, status_by, fit_room}
 use Rattle.model_fit.specs.Samples.{training_samples, fit_of_input}
 use Rattle.model_fit.specs.Shared.{outcome_of}
-use Rattle.model_fit.specs.declared.training.Solving.{Solving}
+use Rattle.model_fit.specs.declared.Input.{Input as HeldInput}
+use Rattle.model_fit.specs.declared.training.Solved.{Solved}
 use Rattle.models.specs.Prediction.{is_solved, predictions, errors, inexact}
-use Rattle.models.specs.declared.FitAnswer.{FitAnswer}
-use Rattle.models.specs.declared.FitAnswer.TheVariants.{Fitted, Refused}
+use Rattle.models.specs.declared.Outputs.{Outputs}
 use Rattle.models.specs.declared.PredictOutcome.{PredictOutcome}
-use Rattle.models.specs.declared.PredictAnswer.{PredictAnswer}
-use Rattle.models.specs.declared.PredictAnswer.TheVariants.{Predicted, Refused as Unpredicted}
 
 -- a model's outputs
 pub record ModelOutputs : Type 0 where
@@ -36,37 +38,9 @@ pub record PredictSlices : Type 0 where
 abbrev pub fit_part : PredictSlices → FitSlices
 fit_part s = record { workspace = s.workspace; coefficients = s.outputs.coefficients }
 
--- ---- as a function's parameters hold them, in an `ensures`
+-- ---- as a function's parameters hold them
 
--- what is read as the call begins: a model's own calls lack the column that it does not use; `retention_at` and
--- `mobility_at` are for a `requires`
-abbrev pub retention_at : (peptide : Held ℕ) (label : Held ℤ) (q aligned : Held Float)
-    (letters offsets : Held ℕ) (masses logs : Held Float) → Input
-retention_at peptide label q aligned letters offsets masses logs =
-    input_of
-    peptide.now label.now q.now [] aligned.now letters.now offsets.now masses.now logs.now
-
-abbrev pub mobility_at : (peptide : Held ℕ) (label : Held ℤ) (q : Held Float)
-    (charge : Held ℕ) (mobility : Held Float) (letters offsets : Held ℕ) (masses : Held Float) → Input
-mobility_at peptide label q charge mobility letters offsets masses =
-    input_of
-    peptide.now label.now q.now charge.now mobility.now letters.now offsets.now masses.now []
-
-abbrev pub retention_input : (peptide : Slice ℕ) (label : Slice ℤ) (q aligned : Slice Float)
-    (letters offsets : Slice ℕ) (masses logs : Slice Float) → Input
-retention_input peptide label q aligned letters offsets masses logs =
-    input_of
-    peptide.entry.now label.entry.now q.entry.now [] aligned.entry.now
-    letters.entry.now offsets.entry.now masses.entry.now logs.entry.now
-
-abbrev pub mobility_input : (peptide : Slice ℕ) (label : Slice ℤ) (q : Slice Float)
-    (charge : Slice ℕ) (mobility : Slice Float) (letters offsets : Slice ℕ) (masses : Slice Float) → Input
-mobility_input peptide label q charge mobility letters offsets masses =
-    input_of
-    peptide.entry.now label.entry.now q.entry.now charge.entry.now mobility.entry.now
-    letters.entry.now offsets.entry.now masses.entry.now []
-
--- and what is written as it begins and as it returns; `outputs_at` and `predict_at` are for a `requires`
+-- what is written: `outputs_at` and `predict_at` in a `requires`, the others in an `ensures`
 abbrev pub outputs_at : (beta predicted error : MutHeld Float) → ModelOutputs
 outputs_at beta predicted error = record { coefficients = beta.now; predicted = predicted.now; error = error.now }
 
@@ -86,29 +60,67 @@ predict_slices workspace outputs =
     (record { workspace = workspace.entry.now; outputs = outputs.entry })
     (record { workspace = workspace.exit.now; outputs = outputs.exit })
 
+-- what is read, in an `ensures` of a C function; a model's own calls lack the column that it does not use
+abbrev pub retention_input : (peptide : Slice ℕ) (label : Slice ℤ) (q aligned : Slice Float)
+    (letters offsets : Slice ℕ) (masses logs : Slice Float) → Input
+retention_input peptide label q aligned letters offsets masses logs =
+    input_of
+    peptide.entry.now label.entry.now q.entry.now [] aligned.entry.now
+    letters.entry.now offsets.entry.now masses.entry.now logs.entry.now
+
+abbrev pub mobility_input : (peptide : Slice ℕ) (label : Slice ℤ) (q : Slice Float)
+    (charge : Slice ℕ) (mobility : Slice Float) (letters offsets : Slice ℕ) (masses : Slice Float) → Input
+mobility_input peptide label q charge mobility letters offsets masses =
+    input_of
+    peptide.entry.now label.entry.now q.entry.now charge.entry.now mobility.entry.now
+    letters.entry.now offsets.entry.now masses.entry.now []
+
+-- ---- as the program's structs hold them
+
+-- what is read, without the column that the model does not use: `retention_at i` in a `requires`, `retention_at i.entry`
+-- in an `ensures`
+abbrev pub retention_at : HeldInput → Input
+retention_at i = record (input_at i) { charges = [] }
+
+abbrev pub mobility_at : HeldInput → Input
+mobility_at i =
+    let read = input_at i in
+    record read { table = record (read.table) { logs = [] } }
+
+-- what is written, as a call begins
+abbrev pub outputs_held : Outputs → ModelOutputs
+outputs_held o = outputs_at o.beta o.predicted o.error
+
+abbrev pub predict_held : (workspace : MutHeld Float) → Outputs → PredictSlices
+predict_held workspace o = predict_at workspace o.beta o.predicted o.error
+
+-- and as it returns: what the struct's fields left
+abbrev pub LeftOutputs : Type 0
+LeftOutputs = MutHeld Float × (MutHeld Float × (MutHeld Float × Unit))
+
+abbrev pub outputs_change : Outputs → LeftOutputs → Change ModelOutputs
+outputs_change o left = change (outputs_held o) (outputs_at left.0 left.1.0 left.1.1.0)
+
 -- ---- the answer
 
-abbrev pub answer_of : (status : ℕ) → Fit → FitAnswer
-answer_of status fit = if_accepted status (Fitted fit.outcome) (Refused status)
+abbrev pub answer_of : {A : Type 0} → (status : ℕ) → A → Result A Refusal
+answer_of status done = if_accepted status (Ok done) (Err (refusal_by status))
 
--- what each answer tells
-abbrev pub told_by : FitAnswer → Told Values
-told_by (Fitted outcome) = outcome_told outcome
-told_by (Refused status) = only status
+-- what an answer tells, by what a value tells
+abbrev pub told_by : {A B : Type 0} → (A → Told B) → Result A Refusal → Told B
+told_by tell (Ok done) = tell done
+told_by tell (Err refusal) = only (number_of refusal)
 
 -- of a prediction: its fit's outcome, and the count over all rows
 abbrev pub predict_outcome : Model → Input → PredictOutcome
 predict_outcome model i = record { fit = (fit_of_input model i).outcome; inexact = inexact model i }
 
-abbrev pub predict_answer_of : (status : ℕ) → PredictOutcome → PredictAnswer
-predict_answer_of status p = if_accepted status (Predicted p) (Unpredicted status)
-
 -- what each tells: the fit's values and the count
 pub record PredictValues : Type 0 where
-  pub fit : Values
+  pub fit : Fit
   pub inexact : ℕ
 
-abbrev pub counted : ℕ → Option Values → Option PredictValues
+abbrev pub counted : ℕ → Option Fit → Option PredictValues
 counted k none = none
 counted k (some v) = some (record { fit = v; inexact = k })
 
@@ -116,10 +128,6 @@ abbrev pub predict_outcome_told : PredictOutcome → Told PredictValues
 predict_outcome_told p =
     let t = outcome_told p.fit in
     record { status = t.status; values = counted p.inexact t.values }
-
-abbrev pub predict_told : PredictAnswer → Told PredictValues
-predict_told (Predicted p) = predict_outcome_told p
-predict_told (Unpredicted status) = only status
 
 -- ---- what an accepted call leaves; an output gets new cells, which are none where the fit is not solved
 
@@ -170,14 +178,14 @@ abbrev pub predict_status : Model → Input → PredictSlices → ℕ
 predict_status model i s = status_by model i (predict_room_in model i s)
 
 -- a fit that passed the checks, on slices that may be longer than it needs
-pub record FittedWithin (model : Model) (i : Input) (s : Change FitSlices) (r : FitOutcome) : Type 0 where
+pub record FittedWithin (model : Model) (i : Input) (s : Change FitSlices) (r : Outcome) : Type 0 where
   pub outcome : r ≡ (fit_of_input model i).outcome
   pub slices : s.exit ≡ fit_filled model i s.entry
   -- a fit that is solved has a coefficient for each column
   pub long : is_solved r ≡ true → length (fit_of_input model i).coefficients ≡ order_of model
 
 -- such a fit, once its squared errors are known
-abbrev pub SolvedWithin : Model → Input → Change FitSlices → Solving → Type 0
+abbrev pub SolvedWithin : Model → Input → Change FitSlices → Result Solved Unfitted → Type 0
 SolvedWithin model i s r =
     FittedWithin model i s
     (outcome_of r (sse (take (order_of model) s.exit.coefficients) (training_samples model i)))
@@ -190,13 +198,14 @@ pub record PredictedWithin (model : Model) (i : Input) (s : Change PredictSlices
   pub outputs : s.exit.outputs ≡ outputs_filled model i s.entry.outputs
 
 -- a call of `fit`; a refused one leaves both slices as they were
-pub record FitCall (model : Model) (i : Input) (s : Change FitSlices) (r : FitAnswer) : Type 0 where
-  pub answer : r ≡ answer_of (fit_status model i s.entry) (fit_of_input model i)
-  pub told : told_by r ≡ told_for (fit_status model i s.entry) (outcome_told (fit_of_input model i).outcome)
+pub record FitCall (model : Model) (i : Input) (s : Change FitSlices) (r : Result Outcome Refusal) : Type 0 where
+  pub answer : r ≡ answer_of (fit_status model i s.entry) (fit_of_input model i).outcome
+  pub told : told_by outcome_told r ≡ told_for (fit_status model i s.entry) (outcome_told (fit_of_input model i).outcome)
   pub slices : s.exit ≡ if_accepted (fit_status model i s.entry) (fit_filled model i s.entry) s.entry
 
 -- a call of `predict`
-pub record PredictCall (model : Model) (i : Input) (s : Change PredictSlices) (r : PredictAnswer) : Type 0 where
-  pub answer : r ≡ predict_answer_of (predict_status model i s.entry) (predict_outcome model i)
-  pub told : predict_told r ≡ told_for (predict_status model i s.entry) (predict_outcome_told (predict_outcome model i))
+pub record PredictCall (model : Model) (i : Input) (s : Change PredictSlices) (r : Result PredictOutcome Refusal) : Type 0 where
+  pub answer : r ≡ answer_of (predict_status model i s.entry) (predict_outcome model i)
+  pub told : told_by predict_outcome_told r
+      ≡ told_for (predict_status model i s.entry) (predict_outcome_told (predict_outcome model i))
   pub slices : s.exit ≡ if_accepted (predict_status model i s.entry) (predict_filled model i s.entry) s.entry

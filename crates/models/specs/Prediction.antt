@@ -1,5 +1,5 @@
 -- The predictions of a fitted model, and their errors. Definitions only.
-use Rattle.std.specs.Prelude.{ℕ, Bool, true, false, not, cond, Float}
+use Rattle.std.specs.Prelude.{ℕ, Bool, true, false, not, cond, Float, Ok, Err}
 use mathlib.Core.List.{List, [], map, zip_with}
 use Rattle.std.specs.Float.{binary32}
 use Rattle.std.specs.Float.Ieee.{sub}
@@ -10,9 +10,7 @@ use Rattle.peptide.specs.Table.{Table}
 use Rattle.embedding.specs.Count.{how_many}
 use Rattle.embedding.specs.declared.Model.{Model}
 use Rattle.embedding.specs.declared.Model.TheVariants.{Retention, Mobility}
-use Rattle.regression.specs.Regression.{dot}
-use Rattle.regression.specs.declared.FitOutcome.{FitOutcome}
-use Rattle.regression.specs.declared.FitOutcome.TheVariants.{Solved, NoTrainingRows, NotSolved}
+use Rattle.regression.specs.Regression.{Outcome, dot}
 use Rattle.model_fit.specs.Input.{Input, Query, queries}
 use Rattle.model_fit.specs.Samples.{design_of, fit_of_input}
 
@@ -38,10 +36,9 @@ abbrev pub error_of : (observed predicted : Float) → Float
 error_of observed predicted = magnitude (sub binary32 observed predicted)
 
 -- a fit with coefficients
-abbrev pub is_solved : FitOutcome → Bool
-is_solved (Solved ridge r2 n) = true
-is_solved NoTrainingRows = false
-is_solved NotSolved = false
+abbrev pub is_solved : Outcome → Bool
+is_solved (Ok fit) = true
+is_solved (Err u) = false
 
 -- of all rows, in order; none where the fit is not solved
 abbrev pub predictions : Model → Input → List Float

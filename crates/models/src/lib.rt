@@ -6,15 +6,9 @@
 use regression::FitOutcome;
 
 mod prediction; // predictions and errors
+// A module for each model, as in the Rust and in the README; each names its model and drops what that does not read.
 pub mod retention_model; // fit, predict, predict_accepted
 pub mod mobility_model; // fit, predict, predict_accepted
-
-// What a fit answers: its outcome, or the status of the check that refused the call.
-#[derive(Clone, Copy)]
-pub enum FitAnswer {
-    Fitted(FitOutcome),
-    Refused(u8),
-}
 
 // The outcome of a prediction's fit, and how many rows' predictions lost something as they were narrowed to an f32, a
 // NaN among them: 0 where the fit is not solved.
@@ -24,9 +18,10 @@ pub struct PredictOutcome {
     pub inexact: u32,
 }
 
-// What a prediction answers, as a fit does.
-#[derive(Clone, Copy)]
-pub enum PredictAnswer {
-    Predicted(PredictOutcome),
-    Refused(u8),
+// What a prediction writes besides its workspace, as C lends it: the coefficients, and each row's prediction and error.
+#[derive(Drop)]
+pub struct Outputs<'a> {
+    pub beta: &'a mut [f64],
+    pub predicted: &'a mut [f32],
+    pub error: &'a mut [f32],
 }

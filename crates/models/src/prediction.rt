@@ -2,10 +2,9 @@
 // make.
 ghost use Rattle.std.specs.Prelude.{◌≡◌, true, ◌≤◌, length};
 ghost use mathlib.Core.List.{map, zip_with};
-ghost use Rattle.embedding.specs.Design.{order_of};
 ghost use Rattle.regression.specs.Regression.{sse};
 ghost use Rattle.regression.specs.Workspace.{fit_slices};
-ghost use Rattle.model_fit.specs.Input.{input_at, model_input, table_in, queries, fit_room};
+ghost use Rattle.model_fit.specs.Input.{input_at, table_at, queries, fit_room};
 ghost use Rattle.model_fit.specs.Samples.{training_samples};
 ghost use Rattle.matrix.specs.Lists.{overwritten};
 ghost use Rattle.model_fit.specs.Shared.{Checked};
@@ -23,13 +22,15 @@ ghost use Rattle.models.specs.Call.{
   PredictCall,
 };
 
-use crate::{FitAnswer, PredictAnswer, PredictOutcome};
+use crate::PredictOutcome;
 use embedding::Model;
+use model_fit::Input;
 use model_fit::checks::{check, fit_room};
 use model_fit::training::{
-    Solving, add_square_at, outcome, predict_row, solve_checked, sum_squares,
+    Coefficients, Scratch, Solved, add_square_at, outcome, solve_checked, sum_squares,
 };
-use regression::FitOutcome;
+use regression::{FitOutcome, Unfitted};
+use status::Refusal;
 
 // What a pass over the rows finds besides their predictions: how many of them narrowing changed, and the sum of the
 // squared errors of the training rows.
@@ -51,64 +52,33 @@ fn largest(model: Model) -> f64
 
 // Writes each row's prediction into the first cells of `predicted`, counts those that narrowing changed, and sums the
 // squared errors of the training rows.
-fn write_predictions(
-    model: Model,
-    peptide: &[u32],
-    label: &[i32],
-    q: &[f32],
-    charge: &[u8],
-    observed: &[f32],
-    letters: &[u8],
-    offsets: &[u32],
-    masses: &[f32],
-    logs: &[f64],
-    beta: &[f64],
-    predicted: &mut [f32],
-) -> Written
-    requires checked { Checked (input_at peptide label q charge observed letters offsets masses logs) }
-    requires peptide_in_bounds { length peptide.now ≤ length predicted.old }
-    requires beta_len { length beta.now ≡ order_of model }
-    ensures predicted_after { predicted.new ≡ overwritten
-        (map
-        (prediction_of model (table_in letters offsets masses logs) beta.now)
-        (queries peptide.now charge.now))
+fn write_predictions(input: Input, fitted: Coefficients, predicted: &mut [f32]) -> Written
+    requires checked { Checked (input_at input) }
+    requires peptide_in_bounds { length input.rows.peptide.now ≤ length predicted.old }
+    ensures predicted_after { let i = input_at input.entry in
+        predicted.new ≡ overwritten
+        (map (prediction_of fitted.entry.model i.table fitted.entry.beta.now) (queries i.peptides i.charges))
         predicted.old }
-    ensures inexact_value { result.inexact ≡ inexact_in model (table_in letters offsets masses logs) beta.now
-        (queries peptide.now charge.now) }
-    ensures sse_value { result.sse ≡ sse
-        beta.now
-        (training_samples model (model_input peptide label q charge observed letters offsets masses logs)) }
+    ensures inexact_value { let i = input_at input.entry in
+        result.inexact ≡ inexact_in fitted.entry.model i.table fitted.entry.beta.now (queries i.peptides i.charges) }
+    ensures sse_value { result.sse ≡ sse fitted.entry.beta.now (training_samples fitted.entry.model (input_at input.entry)) }
 {
-    let hi = largest(model);
-    let mut inexact = 0u32;
-    let mut sse = 0.0;
-    let mut head = [0.0f64; embedding::MAX_HEAD];
-    let mut places = [0usize; status::MAX_ORDER];
-    let mut values = [0.0f64; status::MAX_ORDER];
-    let finite = regression::all_finite(beta);
-    for i in 0..peptide.len() {
-        let x = predict_row(
-            model,
-            peptide,
-            charge,
-            letters,
-            offsets,
-            masses,
-            logs,
-            beta,
-            finite,
-            &mut head,
-            &mut places,
-            &mut values,
-            i,
-        );
+    let rows = input.rows;
+    let hi = largest(fitted.model);
+    let mut written = Written {
+        inexact: 0,
+        sse: 0.0,
+    };
+    let mut cells = Scratch::new();
+    for i in 0..rows.peptide.len() {
+        let x = fitted.predict_row(input, i, &mut cells);
         let clamped = float::clamp64(x, 0.0, hi);
         let bounded = float::narrow(clamped);
         predicted[i] = bounded.value;
-        inexact += !bounded.exact as u32;
-        sse = add_square_at(sse, x, label, q, observed, i);
+        written.inexact += !bounded.exact as u32;
+        written.sse = add_square_at(written.sse, x, rows, i);
     }
-    Written { inexact, sse }
+    written
 }
 
 // |observed - predicted|.
@@ -134,121 +104,45 @@ pub(crate) fn write_errors(observed: &[f32], predicted: &[f32], error: &mut [f32
 // Fits the coefficients of a call that passed the checks, on the first cells of `workspace` and `beta`.
 fn solve_accepted(
     model: Model,
-    peptide: &[u32],
-    label: &[i32],
-    q: &[f32],
-    charge: &[u8],
-    observed: &[f32],
-    letters: &[u8],
-    offsets: &[u32],
-    masses: &[f32],
-    logs: &[f64],
+    input: Input,
     workspace: &mut [f64],
     beta: &mut [f64],
-) -> Solving
-    requires checked { Checked (input_at peptide label q charge observed letters offsets masses logs) }
+) -> Result<Solved, Unfitted>
+    requires checked { Checked (input_at input) }
     requires beta_value { fit_room model (length workspace.old) (length beta.old) ≡ true }
-    ensures { SolvedWithin model
-        (model_input peptide label q charge observed letters offsets masses logs)
-        (fit_slices workspace beta)
-        result }
+    ensures { SolvedWithin model (input_at input.entry) (fit_slices workspace beta) result }
 {
-    let d = embedding::order(model);
+    let d = model.order();
     let cells = regression::workspace_cells(d);
-    solve_checked(
-        model,
-        peptide,
-        label,
-        q,
-        charge,
-        observed,
-        letters,
-        offsets,
-        masses,
-        logs,
-        &mut workspace[..cells],
-        &mut beta[..d],
-    )
+    solve_checked(model, input, &mut workspace[..cells], &mut beta[..d])
 }
 
 // Fits the model of a call that passed the checks, on the first cells of `workspace` and `beta`.
-fn fit_accepted(
-    model: Model,
-    peptide: &[u32],
-    label: &[i32],
-    q: &[f32],
-    charge: &[u8],
-    observed: &[f32],
-    letters: &[u8],
-    offsets: &[u32],
-    masses: &[f32],
-    logs: &[f64],
-    workspace: &mut [f64],
-    beta: &mut [f64],
-) -> FitOutcome
-    requires checked { Checked (input_at peptide label q charge observed letters offsets masses logs) }
+fn fit_accepted(model: Model, input: Input, workspace: &mut [f64], beta: &mut [f64]) -> FitOutcome
+    requires checked { Checked (input_at input) }
     requires beta_value { fit_room model (length workspace.old) (length beta.old) ≡ true }
-    ensures { FittedWithin model
-        (model_input peptide label q charge observed letters offsets masses logs)
-        (fit_slices workspace beta)
-        result }
+    ensures { FittedWithin model (input_at input.entry) (fit_slices workspace beta) result }
 {
-    let solving = solve_accepted(
-        model, peptide, label, q, charge, observed, letters, offsets, masses, logs, workspace, beta,
-    );
-    let Solving::Solved { .. } = solving else {
-        return outcome(solving, 0.0);
-    };
-    let d = embedding::order(model);
-    let sse = sum_squares(
-        model,
-        peptide,
-        label,
-        q,
-        charge,
-        observed,
-        letters,
-        offsets,
-        masses,
-        logs,
-        &beta[..d],
-    );
-    outcome(solving, sse)
+    let solved = solve_accepted(model, input, workspace, beta)?;
+    let fitted = Coefficients::new(model, &beta[..model.order()]);
+    Ok(solved.fit(sum_squares(input, fitted)))
 }
 
 // Checks a call and fits the model.
 pub(crate) fn fit(
     model: Model,
-    peptide: &[u32],
-    label: &[i32],
-    q: &[f32],
-    charge: &[u8],
-    observed: &[f32],
-    letters: &[u8],
-    offsets: &[u32],
-    masses: &[f32],
-    logs: &[f64],
+    input: Input,
     workspace: &mut [f64],
     beta: &mut [f64],
-) -> FitAnswer
-    ensures { FitCall model
-        (model_input peptide label q charge observed letters offsets masses logs)
-        (fit_slices workspace beta)
-        result }
+) -> Result<FitOutcome, Refusal>
+    ensures { FitCall model (input_at input.entry) (fit_slices workspace beta) result }
 {
     let room = fit_room(model, workspace.len(), beta.len());
-    let status = check(
-        model, peptide, label, q, charge, observed, letters, offsets, masses, logs, room,
-    );
-    if status != status::ACCEPTED {
-        return FitAnswer::Refused(status);
-    }
-    FitAnswer::Fitted(fit_accepted(
-        model, peptide, label, q, charge, observed, letters, offsets, masses, logs, workspace, beta,
-    ))
+    check(model, input, room)?;
+    Ok(fit_accepted(model, input, workspace, beta))
 }
 
-// Whether all that a prediction of so many rows writes is long enough.
+// Whether all that a prediction of so many rows writes is long enough, by the lengths of its outputs.
 fn predict_room(
     model: Model,
     rows: usize,
@@ -259,69 +153,41 @@ fn predict_room(
 ) -> bool
     ensures { result ≡ predict_room model rows workspace beta predicted error }
 {
-    if !fit_room(model, workspace, beta) {
-        return false;
-    }
-    if predicted < rows {
-        return false;
-    }
-    rows <= error
+    fit_room(model, workspace, beta) && rows <= predicted && rows <= error
 }
 
 // Fits the model of a call that passed the checks and, where that is solved, writes predictions and errors.
+// The outputs stay apart here: of a struct of `&mut` that is passed on whole, the proof loses what the slices hold.
 pub(crate) fn predict_accepted(
     model: Model,
-    peptide: &[u32],
-    label: &[i32],
-    q: &[f32],
-    charge: &[u8],
-    observed: &[f32],
-    letters: &[u8],
-    offsets: &[u32],
-    masses: &[f32],
-    logs: &[f64],
+    input: Input,
     workspace: &mut [f64],
     beta: &mut [f64],
     predicted: &mut [f32],
     error: &mut [f32],
 ) -> PredictOutcome
-    requires checked { Checked (input_at peptide label q charge observed letters offsets masses logs) }
+    requires checked { Checked (input_at input) }
     requires error_value { predict_room_in model
-        (input_at peptide label q charge observed letters offsets masses logs)
+        (input_at input)
         (predict_at workspace beta predicted error)
         ≡ true }
     ensures { PredictedWithin model
-        (model_input peptide label q charge observed letters offsets masses logs)
+        (input_at input.entry)
         (predict_slices workspace (outputs_of beta predicted error))
         result }
 {
-    let fit = solve_accepted(
-        model, peptide, label, q, charge, observed, letters, offsets, masses, logs, workspace, beta,
-    );
-    let Solving::Solved { .. } = fit else {
+    let solving = solve_accepted(model, input, workspace, beta);
+    let Ok(_) = solving else {
         return PredictOutcome {
-            fit: outcome(fit, 0.0),
+            fit: outcome(solving, 0.0),
             inexact: 0,
         };
     };
-    let d = embedding::order(model);
-    let written = write_predictions(
-        model,
-        peptide,
-        label,
-        q,
-        charge,
-        observed,
-        letters,
-        offsets,
-        masses,
-        logs,
-        &beta[..d],
-        predicted,
-    );
-    write_errors(observed, predicted, error);
+    let fitted = Coefficients::new(model, &beta[..model.order()]);
+    let written = write_predictions(input, fitted, predicted);
+    write_errors(input.rows.observed, predicted, error);
     PredictOutcome {
-        fit: outcome(fit, written.sse),
+        fit: outcome(solving, written.sse),
         inexact: written.inexact,
     }
 }
@@ -329,41 +195,25 @@ pub(crate) fn predict_accepted(
 // Checks a call, fits the model and, where that is solved, writes predictions and errors.
 pub(crate) fn predict(
     model: Model,
-    peptide: &[u32],
-    label: &[i32],
-    q: &[f32],
-    charge: &[u8],
-    observed: &[f32],
-    letters: &[u8],
-    offsets: &[u32],
-    masses: &[f32],
-    logs: &[f64],
+    input: Input,
     workspace: &mut [f64],
     beta: &mut [f64],
     predicted: &mut [f32],
     error: &mut [f32],
-) -> PredictAnswer
+) -> Result<PredictOutcome, Refusal>
     ensures { PredictCall model
-        (model_input peptide label q charge observed letters offsets masses logs)
+        (input_at input.entry)
         (predict_slices workspace (outputs_of beta predicted error))
         result }
 {
     let room = predict_room(
         model,
-        peptide.len(),
+        input.rows.peptide.len(),
         workspace.len(),
         beta.len(),
         predicted.len(),
         error.len(),
     );
-    let status = check(
-        model, peptide, label, q, charge, observed, letters, offsets, masses, logs, room,
-    );
-    if status != status::ACCEPTED {
-        return PredictAnswer::Refused(status);
-    }
-    PredictAnswer::Predicted(predict_accepted(
-        model, peptide, label, q, charge, observed, letters, offsets, masses, logs, workspace,
-        beta, predicted, error,
-    ))
+    check(model, input, room)?;
+    Ok(predict_accepted(model, input, workspace, beta, predicted, error))
 }

@@ -10,12 +10,14 @@ use native.Mathlib.Omega.{arith}
 use lib.ListN.{length, get_or, take, drop, length-set, length-drop}
 use lib.Seq.{take_all, drop-cons, get_or-set_same, get_or-set_other}
 use lib.Ieee.{Float, nan}
+use Rattle.std.specs.List.{All}
+use Rattle.std.proofs.lemmas.List.Elements.{All-nil, All-cons}
 use Rattle.float.specs.Value.{is_zero}
 use Rattle.matrix.specs.Nonzero.{nonzeros, Nonzeros}
 use Rattle.packed_rows.specs.Added.{plus_scaled, plus_nonzero, cell_added, column_added, columns_added}
-use Rattle.packed_rows.specs.Added.{rows_at, rows_of, Gained}
+use Rattle.packed_rows.specs.Added.{row_at, rows_at, Gained}
 use Rattle.packed_rows.specs.Falling.{falling_start, RowStarts, Stored, cell_at}
-use Rattle.packed_rows.specs.declared.Four.{Four}
+use Rattle.packed_rows.specs.declared.Row.{Row}
 use Rattle.packed_rows.proofs.Falling.{row_ends, start_next}
 use Rattle.packed_rows.proofs.Places.{Next, none_left}
 use Rattle.packed_rows.proofs.Places.{Left, left_all, left_none, left_here, next_left, values_long, value_at_lem}
@@ -203,22 +205,22 @@ module _ (ext acc₀ : List Float) where
     -- ---- a column, and the columns that are listed
 
     -- row j, the first from B on and below L that is not zero: where its column 0 would be, and its factor
-    pub record RowAt (B L j : ℕ) (r : ℕ × Float) : Type 0 where
+    pub record RowAt (B L j : ℕ) (r : Row) : Type 0 where
       pub from : B ≤ j
       pub below : j < L
       pub row : suc j < w
       pub zeros : (i : ℕ) → B ≤ i → i < j → is_zero (get_or ext i nan) ≡ true
-      pub base : r.0 + j ≡ falling_start w j
-      pub factor : r.1 ≡ get_or ext j nan
+      pub base : r.base + j ≡ falling_start w j
+      pub factor : r.factor ≡ get_or ext j nan
       pub nonzero : is_zero (get_or ext j nan) ≡ false
 
     -- the rows from B on and below L that are not zero
-    abbrev pub Rows : (B L : ℕ) → List (ℕ × Float) → Type 0
+    abbrev pub Rows : (B L : ℕ) → List Row → Type 0
     Rows B L [] = (j : ℕ) → B ≤ j → j < L → is_zero (get_or ext j nan) ≡ true
     Rows B L (r ∷ rows) = (j : ℕ) × RowAt B L j r × Rows (suc j) L rows
 
     -- column C of the rows below L; the later rows of the block have none there
-    pub column : (J F K L C B : ℕ) (v : Float) (rows : List (ℕ × Float)) (acc : List Float)
+    pub column : (J F K L C B : ℕ) (v : Float) (rows : List Row) (acc : List Float)
         → Rows B L rows → Begun J F K C B acc → F ≤ B → L ≤ K → L ≤ suc C
         → ((j : ℕ) → L ≤ j → j < K → C < j)
         → C < w → v ≡ get_or ext C nan → is_zero (get_or ext C nan) ≡ false
@@ -232,12 +234,12 @@ module _ (ext acc₀ : List Float) where
     column J F K L C B v (r ∷ rows) acc (j, at, more) b f l m later h e z =
         let s : Stored w j C =
         record { row = at.row; from = omega (arith, at.below); within = h } in
-        let place : r.0 + C ≡ cell_at w j C = omega (arith, at.base, at.below) in
-        let one : Begun J F K C (suc j) (cell_added (r.0 + C) r.1 v acc) =
+        let place : r.base + C ≡ cell_at w j C = omega (arith, at.base, at.below) in
+        let one : Begun J F K C (suc j) (cell_added (r.base + C) r.factor v acc) =
         rw place
-        (step J F K C B j acc b s r.1 v (omega (arith, at.from)) at.from (omega (arith, at.below)) at.zeros
+        (step J F K C B j acc b s r.factor v (omega (arith, at.from)) at.from (omega (arith, at.below)) at.zeros
         at.factor e at.nonzero z) in
-        column J F K L C (suc j) v rows (cell_added (r.0 + C) r.1 v acc) more one (omega (arith, at.from)) l m later
+        column J F K L C (suc j) v rows (cell_added (r.base + C) r.factor v acc) more one (omega (arith, at.from)) l m later
         h e z
 
     -- ---- the columns at the places of a sample
@@ -252,7 +254,7 @@ module _ (ext acc₀ : List Float) where
         pub begun : Begun J F K at F acc
 
       -- one place more: its column is added to the rows below L
-      pub turn : (J F K L p c : ℕ) (rows : List (ℕ × Float)) (acc : List Float) → p < length places
+      pub turn : (J F K L p c : ℕ) (rows : List Row) (acc : List Float) → p < length places
           → Rows F L rows → L ≤ K → L ≤ suc (get_or places p 0)
           → ((j : ℕ) → L ≤ j → j < K → get_or places p 0 < j)
           → Reached J F K p c acc
@@ -279,7 +281,7 @@ module _ (ext acc₀ : List Float) where
           }
 
       -- n places more, all past the block's rows
-      pub turns : (n J F K p c : ℕ) (rows : List (ℕ × Float)) (acc : List Float) → p + n ≤ length places
+      pub turns : (n J F K p c : ℕ) (rows : List Row) (acc : List Float) → p + n ≤ length places
           → Rows F K rows → K ≤ suc c
           → Reached J F K p c acc
           → Reached J F K (p + n) c (columns_added rows (take n (drop p places)) (take n (drop p values)) acc)
@@ -371,7 +373,7 @@ module _ (ext acc₀ : List Float) where
         row_at_lem : (B L p : ℕ) → p < length places → Left 0 ext places p B → get_or places p 0 < L
             → get_or places p 0 + 1 < w
             → RowAt B L (get_or places p 0)
-            (get_or starts (get_or places p 0) 0 - get_or places p 0, get_or values p nan)
+            (row_at places values starts p)
         row_at_lem B L p h l b r =
             let q : ℕ = get_or places p 0 in
             let t : Next 0 B ext q (drop (suc p) places) = next_left 0 ext places p B l h in
@@ -448,6 +450,16 @@ module _ (ext acc₀ : List Float) where
               record { row = omega arith; from = up; within = within_row r m } in
               omega (arith, cell_within w q (get_or places r 0) s, start_is, in_starts.1, up)
 
+        -- the same of the rows at n places, up to place r's column
+        pub rows_fit : (n p r : ℕ) → p + n ≤ suc r → r < length places
+            → ((i : ℕ) → p ≤ i → i < p + n → get_or places i 0 + 1 < w)
+            → All (λ (x : Row). x.base + get_or places r 0 < length acc₀) (rows_at places values starts n p)
+        rows_fit zero p r l m b = All-nil (λ (x : Row). x.base + get_or places r 0 < length acc₀)
+        rows_fit (suc n) p r l m b =
+            All-cons (λ (x : Row). x.base + get_or places r 0 < length acc₀) (row_at places values starts p) (rows_at places values starts n (suc p))
+            (cell_fits p (omega arith) (b p (omega arith) (omega arith)) r (omega arith) m)
+            (rows_fit n (suc p) r (omega arith) m (λ i c d. b i (omega arith) (omega arith)))
+
         -- at a place, with the zero columns before it passed over
         pub reach : (J F K p c : ℕ) (acc : List Float) → p < length places → Reached J F K p c acc
             → Reached J F K p (get_or places p 0) acc
@@ -477,7 +489,7 @@ module _ (ext acc₀ : List Float) where
             }
 
         -- the rest of the places, for a block whose last row is at place p
-        rest_gained : (J F K p : ℕ) (rows : List (ℕ × Float)) (acc : List Float) → p < length places
+        rest_gained : (J F K p : ℕ) (rows : List Row) (acc : List Float) → p < length places
             → Rows F K rows → K ≡ suc (get_or places p 0)
             → Reached J F K p (get_or places p 0) acc
             → Gained ext J K acc₀ (columns_added rows (drop p places) (drop p values) acc)
@@ -511,7 +523,7 @@ module _ (ext acc₀ : List Float) where
           abbrev pub value : ℕ → Float
           value i = get_or values (m + i) nan
 
-          abbrev pub rows : ℕ → List (ℕ × Float)
+          abbrev pub rows : ℕ → List Row
           rows n = rows_at places values starts n m
 
           first : get_or places m 0 ≡ place 0
@@ -562,14 +574,14 @@ module _ (ext acc₀ : List Float) where
               (subst (λ (p : ℕ). Reached F F (place 3 + 1) p (suc (place i)) more) {x = suc (m + i)} {y = m + suc i}
               (omega arith) one)
 
-          -- what the columns of the first three rows leave, of rows and factors
-          abbrev pub cornered : (rs : List (ℕ × Float)) (j : ℕ) (x y z : Float) → List Float
-          cornered rs j x y z =
-              column_added (take 3 rs) (place 2) z
-              (column_added (take 2 rs) (place 1) y (column_added (take 1 rs) j x acc₀))
+          -- what the columns of the first three rows leave
+          abbrev pub cornered : (rs : List Row) (j : ℕ) (x : Float) → List Float
+          cornered rs j x =
+              column_added (take 3 rs) (place 2) (value 2)
+              (column_added (take 2 rs) (place 1) (value 1) (column_added (take 1 rs) j x acc₀))
 
           corners : Reached (get_or places m 0) (get_or places m 0) (place 3 + 1) (m + 3) (place 3)
-              (cornered (rows 4) (place 0) (value 0) (value 1) (value 2))
+              (cornered (rows 4) (place 0) (value 0))
           corners =
               let F : ℕ = get_or places m 0 in
               let a = up 0 (omega arith) in
@@ -587,71 +599,34 @@ module _ (ext acc₀ : List Float) where
               subst (λ (L : ℕ). Rows (get_or places m 0) L (rows 4)) {x = suc (place 3)} {y = place 3 + 1} (omega arith)
               (rows_are 3 (omega arith) (omega arith))
 
+          -- the cells of the first n rows that are written lie within the list
+          pub fits_at : (n r : ℕ) → n ≤ 4 → m + n ≤ suc r → r < length places
+              → All (λ (x : Row). x.base + get_or places r 0 < length acc₀) (rows n)
+          fits_at n r l a o =
+              rows_fit n m r a o (λ i c d. omega (
+                arith,
+                below_last (i - m) (omega arith),
+                ap (λ (k : ℕ). get_or places k 0) {x = i} {y = m + (i - m)} (omega arith),
+              ))
+
           -- the same of four rows as the code holds them
-          module _ (four : Four) (e : rows_of four ≡ rows 4) where
-            factor_at : (i : ℕ) → i < 4 → (get_or (rows 4) i (0, nan)).1 ≡ value i
-            factor_at zero l = ap (λ (k : ℕ). get_or values k nan) {x = m} {y = m + 0} (omega arith)
-            factor_at (suc zero) l = ap (λ (k : ℕ). get_or values k nan) {x = suc m} {y = m + 1} (omega arith)
-            factor_at (suc (suc zero)) l =
-                ap (λ (k : ℕ). get_or values k nan) {x = suc (suc m)} {y = m + 2} (omega arith)
-            factor_at (suc (suc (suc i))) l =
-                let z : i ≡ 0 = omega arith in
-                rw z (ap (λ (k : ℕ). get_or values k nan) {x = suc (suc (suc m))} {y = m + 3} (omega arith))
-
-            base_at : (i : ℕ) → i < 4 → (get_or (rows 4) i (0, nan)).0 ≡ get_or starts (place i) 0 - place i
-            base_at zero l =
-                ap (λ (k : ℕ). get_or starts (get_or places k 0) 0 - get_or places k 0)
-                {x = m} {y = m + 0} (omega arith)
-            base_at (suc zero) l =
-                ap (λ (k : ℕ). get_or starts (get_or places k 0) 0 - get_or places k 0)
-                {x = suc m} {y = m + 1} (omega arith)
-            base_at (suc (suc zero)) l =
-                ap (λ (k : ℕ). get_or starts (get_or places k 0) 0 - get_or places k 0) {x = suc (suc m)} {y = m + 2}
-                (omega arith)
-            base_at (suc (suc (suc i))) l =
-                let z : i ≡ 0 = omega arith in
-                rw z
-                (ap (λ (k : ℕ). get_or starts (get_or places k 0) 0 - get_or places k 0)
-                {x = suc (suc (suc m))} {y = m + 3}
-                (omega arith))
-
-            -- the cells that are written lie within the list
-            pub fits_at : (i r : ℕ) → i < 4 → m + i ≤ r → r < length places
-                → (get_or (rows_of four) i (0, nan)).0 + get_or places r 0 < length acc₀
-            fits_at i r l n o =
-                let same : (get_or (rows_of four) i (0, nan)).0 ≡ get_or starts (place i) 0 - place i =
-                ap (λ (t : List (ℕ × Float)). (get_or t i (0, nan)).0) e ∙ base_at i l in
-                omega (
-                  arith,
-                  same,
-                  cell_fits (m + i) (omega arith) (omega (arith, below_last i (omega arith))) r n o,
-                )
-
-            factor_is : (i : ℕ) → i < 4 → (get_or (rows_of four) i (0, nan)).1 ≡ value i
-            factor_is i l = ap (λ (t : List (ℕ × Float)). (get_or t i (0, nan)).1) e ∙ factor_at i l
-
+          module _ (four : List Row) (e : four ≡ rows 4) where
             -- the rows and the corner as they are held
-            pub held_rows : Rows (get_or places m 0) (place 3 + 1) (rows_of four)
+            pub held_rows : Rows (get_or places m 0) (place 3 + 1) four
             held_rows = subst (Rows (get_or places m 0) (place 3 + 1)) (sym e) all_rows
 
             pub held_corner : Reached (get_or places m 0) (get_or places m 0) (place 3 + 1) (m + 3) (place 3)
-                (cornered (rows_of four) (get_or places m 0) four.w four.x four.y)
+                (cornered four (get_or places m 0) (get_or values m nan))
             held_corner =
                 let by : List Float → Type 0 =
                 Reached (get_or places m 0) (get_or places m 0) (place 3 + 1) (m + 3) (place 3) in
-                subst (λ (rs : List (ℕ × Float)). by (cornered rs (get_or places m 0) four.w four.x four.y))
-                (sym e)
-                (subst (λ (j : ℕ). by (cornered (rows 4) j four.w four.x four.y)) (sym first)
-                (subst (λ (x : Float). by (cornered (rows 4) (place 0) x four.x four.y))
-                (sym (factor_is 0 (omega arith)))
-                (subst (λ (y : Float). by (cornered (rows 4) (place 0) (value 0) y four.y))
-                (sym (factor_is 1 (omega arith)))
-                (subst (λ (z : Float). by (cornered (rows 4) (place 0) (value 0) (value 1) z))
-                (sym (factor_is 2 (omega arith))) corners))))
+                subst (λ (rs : List Row). by (cornered rs (get_or places m 0) (get_or values m nan))) (sym e)
+                (subst (λ (i : ℕ). by (cornered (rows 4) (get_or places i 0) (get_or values i nan)))
+                {x = m + 0} {y = m} (omega arith) corners)
 
             pub four_done : Gained ext (get_or places m 0) (place 3 + 1) acc₀
-                (columns_added (rows_of four) (drop (m + 3) places) (drop (m + 3) values)
-                (cornered (rows_of four) (get_or places m 0) four.w four.x four.y))
+                (columns_added four (drop (m + 3) places) (drop (m + 3) values)
+                (cornered four (get_or places m 0) (get_or values m nan)))
             four_done =
-                rest_gained (get_or places m 0) (get_or places m 0) (place 3 + 1) (m + 3) (rows_of four) _ h held_rows
+                rest_gained (get_or places m 0) (get_or places m 0) (place 3 + 1) (m + 3) four _ h held_rows
                 (omega arith) held_corner

@@ -1,6 +1,6 @@
 -- The places of the cells that are not zero, one after the other; and a loop over them: what is left of them and of
 -- their values at a turn.
-use mathlib.Core.Path.{◌≡◌, refl, sym, ap, ◌∙◌}
+use mathlib.Core.Path.{◌≡◌, refl, sym, ap, ◌∙◌, subst}
 use mathlib.Core.Bool.{Bool, true, false, cond}
 use mathlib.Core.List.{List, [], ◌∷◌, ◌++◌}
 use Prim.Native.Nat.{ℕ, zero, suc, ◌+◌, ◌-◌, ◌≤◌, ◌<◌}
@@ -10,8 +10,10 @@ use native.Mathlib.Numerals.{add-one}
 use native.Mathlib.Omega.{arith}
 use lib.ListN.{length, get_or, take, drop, length-append, length-drop, take-append-drop}
 use lib.ListN.{drop_of_length-le}
-use lib.Seq.{drop-cons, drop_at, drop-drop, get_or-drop}
+use lib.Seq.{drop-cons, drop_at, drop-drop, get_or-drop, get_or-take, length-take-le}
 use lib.Ieee.{Float, nan}
+use Rattle.std.specs.List.{All}
+use Rattle.std.proofs.lemmas.List.Elements.{All-from_get_or}
 use Rattle.float.specs.Value.{is_zero}
 use Rattle.matrix.specs.Nonzero.{nonzeros, nonzero_cells, Nonzeros}
 use Rattle.matrix.proofs.Nonzero.{cells_append, as_many}
@@ -176,6 +178,21 @@ module _ (j : ℕ) (rest : List Float) (places : List ℕ) where
         ∙ ap (λ (ps : List ℕ). (j + k) ∷ ps)
         (n.rest ∙ ap (λ (i : ℕ). nonzeros i (drop (suc k) rest)) {x = j + suc k} {y = suc (j + k)} (omega arith))
         ∙ sym (nonzeros_here (j + k) k rest (omega (arith, n.from, n.within)) n.here)
+
+-- ---- a part of a list, n cells of it from cell k on
+
+pub length_part : {A : Type 0} (k n : ℕ) (xs : List A) → k + n ≤ length xs → length (take n (drop k xs)) ≡ n
+length_part k n xs h = length-take-le n (drop k xs) (rw length-drop (omega arith))
+
+pub all_part : (P : ℕ → Type 0) (k n : ℕ) (xs : List ℕ) → k + n ≤ length xs
+    → ((r : ℕ) → k ≤ r → r < k + n → P (get_or xs r 0))
+    → All P (take n (drop k xs))
+all_part P k n xs h f =
+    let long = length_part k n xs h in
+    All-from_get_or P (take n (drop k xs)) 0
+    (λ p l.
+    let m : p < n = omega arith in
+    subst P (sym (get_or-take n (drop k xs) p 0 m ∙ get_or-drop k xs p 0)) (f (k + p) (omega arith) (omega arith)))
 
 -- ---- the values that are left
 

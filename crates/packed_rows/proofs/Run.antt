@@ -12,10 +12,10 @@ use lib.Seq.{drop-cons, get_or-set_same, get_or-set_other}
 use lib.Ieee.{Float, nan}
 use Rattle.float.specs.Value.{is_zero}
 use Rattle.matrix.specs.Nonzero.{Nonzeros}
-use Rattle.packed_rows.specs.Added.{plus_scaled, cell_added, columns_added, run_added, runs_added, rows_at, rows_of}
+use Rattle.packed_rows.specs.Added.{plus_scaled, cell_added, columns_added, run_added, runs_added, rows_at}
 use Rattle.packed_rows.specs.Added.{RunFrom, Gained}
 use Rattle.packed_rows.specs.Falling.{falling_start, RowStarts, Stored, cell_at}
-use Rattle.packed_rows.specs.declared.Four.{Four}
+use Rattle.packed_rows.specs.declared.Row.{Row}
 use Rattle.packed_rows.proofs.Places.{next_left, value_at_lem, values_long}
 use Rattle.packed_rows.proofs.Begun.{cell_within, cells_apart, cell, gains, zero_row, Begun, RowAt, Rows}
 use Rattle.packed_rows.proofs.Begun.{left_at, rising, within_row, Reached, turns, reach}
@@ -96,7 +96,7 @@ module _ (ext acc₀ : List Float) (whole : length acc₀ ≡ falling_start (len
 
     -- ---- one row
 
-    module _ (J F K C : ℕ) (acc₁ : List Float) (b : Begun ext acc₀ J F K C F acc₁) (B : ℕ) (j : ℕ) (e : ℕ × Float)
+    module _ (J F K C : ℕ) (acc₁ : List Float) (b : Begun ext acc₀ J F K C F acc₁) (B : ℕ) (j : ℕ) (e : Row)
         (at : RowAt ext acc₀ whole F K j e) (past : K ≤ suc C)
       where
         -- row j has gained the columns before D, and the other rows are as they were
@@ -127,7 +127,7 @@ module _ (ext acc₀ : List Float) (whole : length acc₀ ≡ falling_start (len
             here = record { row = at.row; from = omega (arith, at.below); within = d }
 
             abbrev added : List Float
-            added = cell_added (cell_at w j D) e.1 v acc
+            added = cell_added (cell_at w j D) e.factor v acc
 
             other : (i c : ℕ) → Stored w i c → ((i ≡ j) × (c ≡ D) → ⊥)
                 → cell ext acc₀ added i c ≡ cell ext acc₀ acc i c
@@ -138,7 +138,7 @@ module _ (ext acc₀ : List Float) (whole : length acc₀ ≡ falling_start (len
             this =
                 let in_list : cell_at w j D < length acc = omega (arith, cell_within w j D here, a.long) in
                 get_or-set_same acc (cell_at w j D) _ nan in_list
-                ∙ ap (λ (y : Float). plus_scaled e.1 y v) (a.ahead D here (omega arith))
+                ∙ ap (λ (y : Float). plus_scaled e.factor y v) (a.ahead D here (omega arith))
                 ∙ rw (at.factor, value, at.nonzero, nonzero)
 
             behind_of : (c : ℕ) → Stored w j c → c < suc D → Dec (D ≤ c) → cell ext acc₀ added j c ≡ gains ext acc₀ j c
@@ -157,24 +157,24 @@ module _ (ext acc₀ : List Float) (whole : length acc₀ ≡ falling_start (len
                 }
 
         along : (n p D : ℕ) (acc : List Float) → h ≤ p → p + n ≡ length places → D + n ≡ w → C ≤ D → Along D acc
-            → Along w (run_added (cell_at w j D) e.1 (drop p values) acc)
+            → Along w (run_added (cell_at w j D) e.factor (drop p values) acc)
         along zero p D acc l m d low a =
             let all : length values ≤ p = omega (arith, values_long 0 ext places values g) in
-            subst (Along w) (sym (run_none (cell_at w j D) e.1 values p acc all))
+            subst (Along w) (sym (run_none (cell_at w j D) e.factor values p acc all))
             (subst (λ (k : ℕ). Along k acc) {x = D} {y = w} (omega arith) a)
         along (suc n) p D acc l m d low a =
             let place : get_or places p 0 ≡ D = omega (arith, run_place p l (omega arith)) in
             let v = rw place at (run_value p (omega arith)) in
-            let more : Along (suc D) (cell_added (cell_at w j D) e.1 (get_or values p nan) acc) =
+            let more : Along (suc D) (cell_added (cell_at w j D) e.factor (get_or values p nan) acc) =
             along_step D acc a (omega arith) low (get_or values p nan) v.0 v.1 in
             let next : cell_at w j (suc D) ≡ suc (cell_at w j D) = omega (arith, at.below) in
             let rest = along n (suc p) (suc D) _ (omega arith) (omega arith) (omega arith) (omega arith) more in
             subst (Along w)
             (ap
             (λ (k : ℕ).
-            run_added k e.1 (drop (suc p) values) (cell_added (cell_at w j D) e.1 (get_or values p nan) acc)) next
+            run_added k e.factor (drop (suc p) values) (cell_added (cell_at w j D) e.factor (get_or values p nan) acc)) next
             ∙ sym
-            (ap (λ (vs : List Float). run_added (cell_at w j D) e.1 vs acc)
+            (ap (λ (vs : List Float). run_added (cell_at w j D) e.factor vs acc)
             (drop-cons values p nan (omega (arith, values_long 0 ext places values g))))) rest
 
         -- the whole row has
@@ -221,7 +221,7 @@ module _ (ext acc₀ : List Float) (whole : length acc₀ ≡ falling_start (len
 
     -- ---- row after row
 
-    pub runs_gained : (J B K : ℕ) (rows : List (ℕ × Float)) (acc : List Float) → Rows ext acc₀ whole B K rows
+    pub runs_gained : (J B K : ℕ) (rows : List Row) (acc : List Float) → Rows ext acc₀ whole B K rows
         → K ≤ suc (get_or places h 0) → Begun ext acc₀ J B K (get_or places h 0) B acc
         → Gained ext J K acc₀ (runs_added rows (get_or places h 0) (drop h values) acc)
     runs_gained J B K [] acc none l b =
@@ -244,31 +244,31 @@ module _ (ext acc₀ : List Float) (whole : length acc₀ ≡ falling_start (len
     runs_gained J B K (e ∷ rows) acc (j, at, more) l b =
         let C : ℕ = get_or places h 0 in
         let n : ℕ = length places - h in
-        let place : e.0 + C ≡ cell_at w j C = omega (arith, at.base, at.below) in
+        let place : e.base + C ≡ cell_at w j C = omega (arith, at.base, at.below) in
         let a =
         along J B K C acc b B j e at l n h C acc (omega arith) (omega arith) (r.last some) (omega arith)
         (along_begins J B K C acc b B j e at l) in
-        let one : Begun ext acc₀ J (suc j) K C (suc j) (run_added (e.0 + C) e.1 (drop h values) acc) =
-        subst (λ (k : ℕ). Begun ext acc₀ J (suc j) K C (suc j) (run_added k e.1 (drop h values) acc)) (sym place)
+        let one : Begun ext acc₀ J (suc j) K C (suc j) (run_added (e.base + C) e.factor (drop h values) acc) =
+        subst (λ (k : ℕ). Begun ext acc₀ J (suc j) K C (suc j) (run_added k e.factor (drop h values) acc)) (sym place)
         (row_run J B K C acc b B j e at l _ a) in
         runs_gained J (suc j) K rows _ more l one
 
     -- ---- four rows with a run
 
     module _ (starts : List ℕ) (firsts : RowStarts (w - 1) starts) (m : ℕ) (three : m + 3 < length places)
-        (last : get_or places (m + 3) 0 + 1 < w) (four : Four)
-        (held : rows_of four ≡ rows_at places values starts 4 m) (past : m + 3 < h)
+        (last : get_or places (m + 3) 0 + 1 < w) (four : List Row)
+        (held : four ≡ rows_at places values starts 4 m) (past : m + 3 < h)
       where
         -- what the code leaves before the runs
         abbrev pub to_run : List Float
         to_run =
-            columns_added (rows_of four) (take (h - (m + 3)) (drop (m + 3) places))
+            columns_added four (take (h - (m + 3)) (drop (m + 3) places))
             (take (h - (m + 3)) (drop (m + 3) values))
-            (cornered ext acc₀ whole places values g starts firsts m three last (rows_of four) (get_or places m 0)
-            four.w four.x four.y)
+            (cornered ext acc₀ whole places values g starts firsts m three last four (get_or places m 0)
+            (get_or values m nan))
 
         pub four_run : Gained ext (get_or places m 0) (get_or places (m + 3) 0 + 1) acc₀
-            (runs_added (rows_of four) (get_or places h 0) (drop h values) to_run)
+            (runs_added four (get_or places h 0) (drop h values) to_run)
         four_run =
             let F : ℕ = get_or places m 0 in
             let K : ℕ = get_or places (m + 3) 0 + 1 in
@@ -276,7 +276,7 @@ module _ (ext acc₀ : List Float) (whole : length acc₀ ≡ falling_start (len
             let corner = held_corner ext acc₀ whole places values g starts firsts m three last four held in
             let n : ℕ = h - (m + 3) in
             let all : Reached ext acc₀ whole places values g F F K (m + 3 + n) (get_or places (m + 3) 0) to_run =
-            turns ext acc₀ whole places values g n F F K (m + 3) (get_or places (m + 3) 0) (rows_of four) _
+            turns ext acc₀ whole places values g n F F K (m + 3) (get_or places (m + 3) 0) four _
             (omega arith) rs
             (omega arith) corner in
             let at_h : Reached ext acc₀ whole places values g F F K h (get_or places (m + 3) 0) to_run =
@@ -289,5 +289,5 @@ module _ (ext acc₀ : List Float) (whole : length acc₀ ≡ falling_start (len
             let b = left_at ext acc₀ whole places values g (m + 3) (omega arith) in
             let up = rising ext acc₀ whole places values g (h - (m + 3)) (m + 3) b.0 b.1 (omega arith) in
             let to_h = ap (λ (i : ℕ). get_or places i 0) {x = m + 3 + (h - (m + 3))} {y = h} (omega arith) in
-            runs_gained F F K (rows_of four) to_run rs (omega (arith, up, to_h))
+            runs_gained F F K four to_run rs (omega (arith, up, to_h))
             (subst (λ (c : ℕ). Begun ext acc₀ F F K c F to_run) same there.begun)

@@ -6,7 +6,7 @@ use Rattle.std.specs.Float.{nan, binary64}
 use Rattle.std.specs.Float.Ieee.{add, mul}
 use Rattle.float.specs.Value.{is_zero}
 use Rattle.matrix.specs.Nonzero.{Nonzeros}
-use Rattle.packed_rows.specs.declared.Four.{Four}
+use Rattle.packed_rows.specs.declared.Row.{Row}
 use Rattle.packed_rows.specs.Falling.{falling_start, RowStarts, Stored, cell_at}
 
 -- d plus c times s
@@ -23,23 +23,25 @@ cell_added at x v acc = set acc at (plus_scaled x (get_or acc at nan) v)
 
 -- Rows, each by where its column 0 would be in the list, and its factor: to the cell of column c of each of them, one
 -- after the other, v times the factor added.
-abbrev pub column_added : (rows : List (ℕ × Float)) (c : ℕ) (v : Float) → List Float → List Float
+abbrev pub column_added : (rows : List Row) (c : ℕ) (v : Float) → List Float → List Float
 column_added [] c v acc = acc
-column_added (r ∷ rows) c v acc = column_added rows c v (cell_added (r.0 + c) r.1 v acc)
+column_added (r ∷ rows) c v acc = column_added rows c v (cell_added (r.base + c) r.factor v acc)
+
+-- that of the column at place p
+abbrev pub row_at : (places : List ℕ) (values : List Float) (starts : List ℕ) (p : ℕ) → Row
+row_at places values starts p =
+    record {
+      base = get_or starts (get_or places p 0) 0 - get_or places p 0;
+      factor = get_or values p nan;
+    }
 
 -- those of the columns at n places, from place p on
-abbrev pub rows_at : (places : List ℕ) (values : List Float) (starts : List ℕ) (n p : ℕ) → List (ℕ × Float)
+abbrev pub rows_at : (places : List ℕ) (values : List Float) (starts : List ℕ) (n p : ℕ) → List Row
 rows_at places values starts zero p = []
-rows_at places values starts (suc n) p =
-    (get_or starts (get_or places p 0) 0 - get_or places p 0, get_or values p nan)
-    ∷ rows_at places values starts n (suc p)
-
--- four of them
-abbrev pub rows_of : Four → List (ℕ × Float)
-rows_of r = (r.a, r.w) ∷ (r.b, r.x) ∷ (r.c, r.y) ∷ (r.d, r.z) ∷ []
+rows_at places values starts (suc n) p = row_at places values starts p ∷ rows_at places values starts n (suc p)
 
 -- for each of these columns, by its place and its value
-abbrev pub columns_added : (rows : List (ℕ × Float)) (places : List ℕ) (values : List Float)
+abbrev pub columns_added : (rows : List Row) (places : List ℕ) (values : List Float)
     → List Float → List Float
 columns_added rows [] values acc = acc
 columns_added rows (c ∷ places) [] acc = acc
@@ -51,9 +53,9 @@ run_added at x [] acc = acc
 run_added at x (v ∷ values) acc = run_added (suc at) x values (cell_added at x v acc)
 
 -- to each of these rows, from column c on
-abbrev pub runs_added : (rows : List (ℕ × Float)) (c : ℕ) (values : List Float) → List Float → List Float
+abbrev pub runs_added : (rows : List Row) (c : ℕ) (values : List Float) → List Float → List Float
 runs_added [] c values acc = acc
-runs_added (r ∷ rows) c values acc = runs_added rows c values (run_added (r.0 + c) r.1 values acc)
+runs_added (r ∷ rows) c values acc = runs_added rows c values (run_added (r.base + c) r.factor values acc)
 
 -- 4, 6 or 8
 pub record RunLong (n : ℕ) : Type 0 where

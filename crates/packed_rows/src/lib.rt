@@ -1,34 +1,30 @@
 // Rows of falling width, stored one after the other: the packed upper triangle. They gain a sample by its cells that
 // are not zero: four rows at a time, column after column, so that a place and its value are read once for the four, or
-// one alone. A row's column c lies c cells past the row's base.
+// one alone. A row's column c lies c cells past the row's base. Places and values are two slices, since C lends the
+// places alone (`zk_add_row_sparse`).
 #![tactic(auto)]
 
-ghost use Rattle.std.specs.Prelude.{◌≡◌, List, ℕ, ◌+◌, ◌-◌, ◌≤◌, ◌<◌, length, get_or, take, Float};
+ghost use Rattle.std.specs.Prelude.{◌≡◌, List, ℕ, ◌+◌, ◌≤◌, ◌<◌, length, get_or, Float};
+ghost use Rattle.std.specs.List.{All};
 ghost use Rattle.packed_rows.specs.Added.{
   cell_added,
   column_added,
   columns_added,
   run_added,
   runs_added,
+  row_at,
   rows_at,
-  rows_of,
   Addable,
   RunLong,
   RunFrom,
   Gained,
 };
 
-// Four rows: their bases, and what is multiplied with the columns' values.
+// A row that gains a sample: where its column 0 would be, and what is multiplied with the columns' values.
 #[derive(Clone, Copy)]
-struct Four {
-    a: usize,
-    b: usize,
-    c: usize,
-    d: usize,
-    w: f64,
-    x: f64,
-    y: f64,
-    z: f64,
+struct Row {
+    base: usize,
+    factor: f64,
 }
 
 // Adds x * v to a cell.
@@ -39,56 +35,23 @@ fn add_cell(acc: &mut [f64], at: usize, x: f64, v: f64)
     acc[at] = acc[at] + x * v;
 }
 
-// Adds to column k of four rows, `v` being the sample's cell there.
-fn add_column(acc: &mut [f64], k: usize, v: f64, four: Four)
-    requires k_in_bounds { (four.a + k < length acc.old) × (four.b + k < length acc.old) }
-    requires k_in_bounds_2 { (four.c + k < length acc.old) × (four.d + k < length acc.old) }
-    ensures { acc.new ≡ column_added (rows_of four) k v acc.old }
+// Adds to column k of some rows, `v` being the sample's cell there.
+fn add_column(acc: &mut [f64], k: usize, v: f64, rows: &[Row])
+    requires { All (λ r. r.base + k < length acc.old) rows.now }
+    ensures { acc.new ≡ column_added rows.now k v acc.old }
 {
-    add_cell(acc, four.a + k, four.w, v);
-    add_cell(acc, four.b + k, four.x, v);
-    add_cell(acc, four.c + k, four.y, v);
-    add_cell(acc, four.d + k, four.z, v);
+    for row in rows {
+        add_cell(acc, row.base + k, row.factor, v);
+    }
 }
 
-// Adds to columns i and j, which are those of the first two rows: a row has no cell before its own column.
-fn add_first(acc: &mut [f64], i: usize, j: usize, four: Four)
-    requires i_in_bounds { (four.a + i < length acc.old) × (four.a + j < length acc.old) }
-    requires j_in_bounds { four.b + j < length acc.old }
-    ensures { acc.new
-        ≡ column_added (take 2 (rows_of four)) j four.x
-        (column_added (take 1 (rows_of four)) i four.w acc.old) }
+// Adds to each column that is listed of some rows.
+fn add_columns(acc: &mut [f64], places: &[usize], values: &[f64], rows: &[Row])
+    requires { All (λ k. All (λ r. r.base + k < length acc.old) rows.now) places.now }
+    ensures { acc.new ≡ columns_added rows.now places.now values.now acc.old }
 {
-    add_cell(acc, four.a + i, four.w, four.w);
-    add_cell(acc, four.a + j, four.w, four.x);
-    add_cell(acc, four.b + j, four.x, four.x);
-}
-
-// Adds to column k, which is that of the third row.
-fn add_third(acc: &mut [f64], k: usize, four: Four)
-    requires k_in_bounds { (four.a + k < length acc.old) × (four.b + k < length acc.old) }
-    requires k_in_bounds_2 { four.c + k < length acc.old }
-    ensures { acc.new ≡ column_added (take 3 (rows_of four)) k four.y acc.old }
-{
-    add_cell(acc, four.a + k, four.w, four.y);
-    add_cell(acc, four.b + k, four.x, four.y);
-    add_cell(acc, four.c + k, four.y, four.y);
-}
-
-// Adds to each column that is listed of four rows.
-fn add_columns(acc: &mut [f64], places: &[usize], values: &[f64], four: Four)
-    requires values_len { length values.now ≡ length places.now }
-    requires by_index { (p : ℕ) → p < length places.now
-        → (four.a + get_or places.now p 0 < length acc.old) × (four.b + get_or places.now p 0 < length acc.old)
-        × (four.c + get_or places.now p 0 < length acc.old)
-        × (four.d + get_or places.now p 0 < length acc.old) }
-    ensures { acc.new
-        ≡ columns_added (rows_of four) places.now values.now acc.old }
-{
-    let mut p = 0usize;
-    while p < places.len() {
-        add_column(acc, places[p], values[p], four);
-        p += 1;
+    for (&place, &value) in places.iter().zip(values) {
+        add_column(acc, place, value, rows);
     }
 }
 
@@ -101,7 +64,7 @@ fn add_two(acc: &mut [f64], at: usize, x: f64, a: f64, b: f64)
     acc[at + 1] = acc[at + 1] + x * b;
 }
 
-// Adds x times the values, which are 4, 6 or 8, to cells side by side.
+// Adds x times the values, which are 4, 6 or 8, to cells side by side. (A loop over them takes longer.)
 fn add_run(acc: &mut [f64], at: usize, x: f64, values: &[f64])
     requires { RunLong (length values.now) × (at + length values.now ≤ length acc.old) }
     ensures { acc.new ≡ run_added at x values.now acc.old }
@@ -118,50 +81,49 @@ fn add_run(acc: &mut [f64], at: usize, x: f64, values: &[f64])
     add_two(acc, at + 6, x, values[6], values[7]);
 }
 
-// Adds to the columns from k on of four rows, `values` being the sample's cells there.
-fn add_runs(acc: &mut [f64], k: usize, values: &[f64], four: Four)
-    requires run_long { RunLong (length values.now) × (four.a + k + length values.now ≤ length acc.old) }
-    requires values_in_bounds { (four.b + k + length values.now ≤ length acc.old)
-        × (four.c + k + length values.now ≤ length acc.old)
-        × (four.d + k + length values.now ≤ length acc.old) }
-    ensures { acc.new ≡ runs_added (rows_of four) k values.now acc.old }
+// Adds to the columns from k on of some rows, `values` being the sample's cells there.
+fn add_runs(acc: &mut [f64], k: usize, values: &[f64], rows: &[Row])
+    requires run_long { RunLong (length values.now) }
+    requires in_bounds { All (λ r. r.base + k + length values.now ≤ length acc.old) rows.now }
+    ensures { acc.new ≡ runs_added rows.now k values.now acc.old }
 {
-    add_run(acc, four.a + k, four.w, values);
-    add_run(acc, four.b + k, four.x, values);
-    add_run(acc, four.c + k, four.y, values);
-    add_run(acc, four.d + k, four.z, values);
-}
-
-// Where column 0 of row j would be: the row begins with column j.
-fn base(starts: &[usize], j: usize) -> usize
-    requires { (j < length starts.now) × (j ≤ get_or starts.now j 0) }
-    ensures { result ≡ get_or starts.now j 0 - j }
-{
-    starts[j] - j
-}
-
-// The rows of the columns at four places, from place m on.
-fn four_at(places: &[usize], values: &[f64], starts: &[usize], m: usize) -> Four
-    requires m_in_bounds { (m + 3 < length places.now) × (length values.now ≡ length places.now) }
-    requires by_index { (p : ℕ) → m ≤ p → p < m + 4
-        → (get_or places.now p 0 < length starts.now)
-        × (get_or places.now p 0 ≤ get_or starts.now (get_or places.now p 0) 0) }
-    ensures { rows_of result ≡ rows_at places.now values.now starts.now 4 m }
-{
-    Four {
-        a: base(starts, places[m]),
-        b: base(starts, places[m + 1]),
-        c: base(starts, places[m + 2]),
-        d: base(starts, places[m + 3]),
-        w: values[m],
-        x: values[m + 1],
-        y: values[m + 2],
-        z: values[m + 3],
+    for row in rows {
+        add_run(acc, row.base + k, row.factor, values);
     }
 }
 
-// The number of the place from which on places lie side by side up to the last of w, 4, 6 or 8 of them, or of no place.
-// For `regression`, whose places are below w.
+// The row of the column at place m: it begins with that column.
+fn row_at(places: &[usize], values: &[f64], starts: &[usize], m: usize) -> Row
+    requires m_in_bounds { (m < length places.now) × (m < length values.now) }
+    requires start { let j = get_or places.now m 0 in
+        (j < length starts.now) × (j ≤ get_or starts.now j 0) }
+    ensures { result ≡ row_at places.now values.now starts.now m }
+{
+    let j = places[m];
+    Row {
+        base: starts[j] - j,
+        factor: values[m],
+    }
+}
+
+// The rows of the columns at four places, from place m on.
+fn four_at(places: &[usize], values: &[f64], starts: &[usize], m: usize) -> [Row; 4]
+    requires m_in_bounds { (m + 3 < length places.now) × (m + 3 < length values.now) }
+    requires by_index { (p : ℕ) → m ≤ p → p < m + 4
+        → (get_or places.now p 0 < length starts.now)
+        × (get_or places.now p 0 ≤ get_or starts.now (get_or places.now p 0) 0) }
+    ensures { result ≡ rows_at places.now values.now starts.now 4 m }
+{
+    [
+        row_at(places, values, starts, m),
+        row_at(places, values, starts, m + 1),
+        row_at(places, values, starts, m + 2),
+        row_at(places, values, starts, m + 3),
+    ]
+}
+
+// How many places lie before the run at their end: 4, 6 or 8 places side by side up to the last of w, or none. For
+// `regression`, whose places are below w. (No Option: it is a place to split at, the end where there is no run.)
 pub fn run_from(places: &[usize], w: usize) -> usize
     requires { (p : ℕ) → p < length places.now → get_or places.now p 0 < w }
     ensures { RunFrom w places.now result }
@@ -180,7 +142,8 @@ pub fn run_from(places: &[usize], w: usize) -> usize
 }
 
 // Adds a sample to the stored rows of the columns at four places, from place m on. The places from number h on lie side
-// by side, as `run_from` has them. For `regression`, which knows the sample's places and where the rows start.
+// by side, as `run_from` has them. A row has no cell before its own column, so the columns of the first three are
+// added to the rows up to theirs. For `regression`, which knows the sample's places and where the rows start.
 pub fn add_four_rows(
     acc: &mut [f64],
     places: &[usize],
@@ -204,16 +167,17 @@ pub fn add_four_rows(
         acc.old
         acc.new }
 {
-    let four = four_at(places, values, starts, m);
-    add_first(acc, places[m], places[m + 1], four);
-    add_third(acc, places[m + 2], four);
+    let rows = four_at(places, values, starts, m);
+    add_column(acc, places[m], values[m], &rows[..1]);
+    add_column(acc, places[m + 1], values[m + 1], &rows[..2]);
+    add_column(acc, places[m + 2], values[m + 2], &rows[..3]);
     let from = m + 3;
     if from < h && h < places.len() {
-        add_columns(acc, &places[from..h], &values[from..h], four);
-        add_runs(acc, places[h], &values[h..], four);
+        add_columns(acc, &places[from..h], &values[from..h], &rows);
+        add_runs(acc, places[h], &values[h..], &rows);
         return;
     }
-    add_columns(acc, &places[from..], &values[from..], four);
+    add_columns(acc, &places[from..], &values[from..], &rows);
 }
 
 // Adds a sample to the stored row of the column at place m. For `regression`, as `add_four_rows`.
@@ -231,11 +195,6 @@ pub fn add_one_row(acc: &mut [f64], places: &[usize], values: &[f64], starts: &[
         acc.old
         acc.new }
 {
-    let row = base(starts, places[m]);
-    let x = values[m];
-    let mut p = m;
-    while p < places.len() {
-        add_cell(acc, row + places[p], x, values[p]);
-        p += 1;
-    }
+    let row = [row_at(places, values, starts, m)];
+    add_columns(acc, &places[m..], &values[m..], &row);
 }

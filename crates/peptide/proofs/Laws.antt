@@ -1,5 +1,6 @@
 -- Laws of the peptide table: how a loop goes through the offsets, and what a table that passes says of each peptide.
-use mathlib.Core.Path.{◌≡◌, refl, ap}
+use mathlib.Core.Logic.{◌≢◌}
+use mathlib.Core.Path.{◌≡◌, refl, sym, ap, ◌∙◌}
 use mathlib.Core.Bool.{Bool, true, false, ◌&&◌, cond}
 use mathlib.Core.List.{List, [], ◌∷◌}
 use Prim.Native.Nat.{ℕ, zero, suc, ◌+◌, ◌-◌, ◌≤◌, ◌<◌}
@@ -7,9 +8,10 @@ use native.Mathlib.Nat.{le_of_suc-le-suc, not-suc-le-zero}
 use native.Mathlib.Numerals.{add-one}
 use native.Mathlib.Omega.{arith}
 use lib.Dec.{eqb, leb}
-use lib.ListN.{length, get_or, drop, length-drop, drop_of_length-le}
-use lib.Seq.{drop-cons, length-take-le}
-use borrow.Author.Tests.{leb-true, eqb-true, eqb-false}
+use lib.ListN.{length, get_or, take, drop, length-drop, drop_of_length-le}
+use lib.Seq.{take_all, drop-cons, length-take-le}
+use borrow.Author.Tests.{leb-true, eq-eqb, ne_eqb, eqb-true, eqb-false}
+use Rattle.std.proofs.lemmas.Grind.{get_or_after_one}
 use Rattle.mass.specs.Mass.{is_letter}
 use Rattle.status.specs.Checks.{every}
 use Rattle.status.specs.Limits.{max_letters}
@@ -29,7 +31,7 @@ use Rattle.peptide.specs.Table.{
 -- ---- a loop through the offsets
 
 -- the first offset and the others
-pub offsets_head : (peptides letters : ℕ) (offsets : List ℕ) → 0 < length offsets
+offsets_head : (peptides letters : ℕ) (offsets : List ℕ) → 0 < length offsets
     → offsets_right peptides letters offsets
     ≡ eqb (length offsets - 1) peptides && eqb (get_or offsets 0 0) 0 && climbs (get_or offsets 0 0) letters (drop 1 offsets)
 unfolding offsets_right
@@ -37,6 +39,48 @@ offsets_head peptides letters [] h = absurd (not-suc-le-zero h)
 offsets_head peptides letters (o ∷ offsets) h =
     ap (λ (n : ℕ). eqb n peptides && eqb o 0 && climbs o letters offsets) {x = length offsets}
     {y = suc (length offsets) - 1} (omega arith)
+
+-- the offsets after the first, as a pattern takes them
+abbrev pub rest : List ℕ → List ℕ
+rest offsets = take (length offsets - 1) (drop 1 offsets)
+
+rest_is : (offsets : List ℕ) → rest offsets ≡ drop 1 offsets
+rest_is offsets = take_all (length offsets - 1) (drop 1 offsets) (omega (arith, length-drop 1 offsets))
+
+-- one of them is one of all
+pub get_or_rest : (offsets : List ℕ) (i : ℕ) → get_or (rest offsets) i 0 ≡ get_or offsets (1 + i) 0
+get_or_rest offsets i =
+    ap (λ (xs : List ℕ). get_or xs i 0) (rest_is offsets) ∙ get_or_after_one offsets i 0
+
+offsets_by : (peptides letters : ℕ) (offsets : List ℕ) → 1 ≤ length offsets
+    → offsets_right peptides letters offsets
+    ≡ eqb (length (rest offsets)) peptides && eqb (get_or offsets 0 0) 0 && climbs (get_or offsets 0 0) letters (rest offsets)
+offsets_by peptides letters offsets h =
+    rw (rest_is offsets, length-drop 1 offsets) (offsets_head peptides letters offsets h)
+
+-- where they are as many as they should be, and the first is 0
+pub offsets_rest : (peptides letters : ℕ) (offsets : List ℕ) → 1 ≤ length offsets → get_or offsets 0 0 ≡ 0
+    → length (rest offsets) ≡ peptides
+    → climbs 0 letters (rest offsets) ≡ offsets_right peptides letters offsets
+offsets_rest peptides letters offsets h first many =
+    sym
+    (rw (eq-eqb _ _ many, eq-eqb _ _ first) at (offsets_by peptides letters offsets h)
+    ∙ ap (λ (start : ℕ). climbs start letters (rest offsets)) first)
+
+-- and where they are not
+pub count_wrong : (peptides letters : ℕ) (offsets : List ℕ) → 1 ≤ length offsets
+    → length (rest offsets) ≢ peptides → offsets_right peptides letters offsets ≡ false
+count_wrong peptides letters offsets h many =
+    rw (ne_eqb _ _ many) at (offsets_by peptides letters offsets h)
+
+pub first_wrong : (peptides letters : ℕ) (offsets : List ℕ) → 1 ≤ length offsets → get_or offsets 0 0 ≢ 0
+    → offsets_right peptides letters offsets ≡ false
+first_wrong peptides letters offsets h first =
+    rw (ne_eqb _ _ first) at (offsets_by peptides letters offsets h) ∙ none (eqb (length (rest offsets)) peptides)
+  where
+    none : (b : Bool) → b && false && climbs (get_or offsets 0 0) letters (rest offsets) ≡ false
+    none true = refl
+    none false = refl
 
 pub offsets_none : (peptides letters : ℕ) (offsets : List ℕ) → length offsets < 1
     → offsets_right peptides letters offsets ≡ false

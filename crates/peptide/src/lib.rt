@@ -1,29 +1,28 @@
 // The peptide table: the letters of all peptides in one slice, and offsets that say where each peptide's begin and
-// the last's end.
+// the last's end. Two slices, as the C interface lends them: a table that is refused is no pair of them that belongs
+// together, so they are not one value.
 #![tactic(auto)]
 
 ghost use Rattle.std.specs.Prelude.{◌≡◌};
+ghost use Rattle.status.specs.Status.{checked};
 ghost use Rattle.peptide.specs.Table.{offsets_right, letters_right, table_status, sequence_of, HasPeptide};
 
 use matrix::PeptideIx;
+use status::Refusal;
 
 // Whether the offsets are those of so many peptides with so many letters: check 7.
 fn check_offsets(offsets: &[u32], peptides: usize, letters: usize) -> bool
     ensures { result ≡ offsets_right peptides letters offsets.now }
 {
-    if offsets.len() < 1 {
+    let [0, rest @ ..] = offsets else {
+        return false;
+    };
+    if rest.len() != peptides {
         return false;
     }
-    if offsets.len() - 1 != peptides {
-        return false;
-    }
-    let mut start = offsets[0] as usize;
-    if start != 0 {
-        return false;
-    }
-    let mut i = 1usize;
-    while i < offsets.len() {
-        let next = offsets[i] as usize;
+    let mut start = 0;
+    for offset in rest {
+        let next = *offset as usize;
         if next < start {
             return false;
         }
@@ -31,7 +30,6 @@ fn check_offsets(offsets: &[u32], peptides: usize, letters: usize) -> bool
             return false;
         }
         start = next;
-        i += 1;
     }
     start == letters
 }
@@ -40,30 +38,16 @@ fn check_offsets(offsets: &[u32], peptides: usize, letters: usize) -> bool
 fn check_letters(letters: &[u8]) -> bool
     ensures { result ≡ letters_right letters.now }
 {
-    let mut i = 0usize;
-    while i < letters.len() {
-        let letter = letters[i];
-        if !mass::is_letter(letter) {
-            return false;
-        }
-        i += 1;
-    }
-    true
+    letters.iter().all(|letter| mass::is_letter(*letter))
 }
 
-// The status of a table with so many peptides: 7, 6 or 0. Both checks are made, and the first that fails is answered.
-pub fn check_table(letters: &[u8], offsets: &[u32], peptides: usize) -> u8
-    ensures { result ≡ table_status letters.now offsets.now peptides }
+// The checks of a table with so many peptides: 7 or 6 where one fails, of both the first.
+pub fn check_table(letters: &[u8], offsets: &[u32], peptides: usize) -> Result<(), Refusal>
+    ensures { result ≡ checked (table_status letters.now offsets.now peptides) }
 {
     let offsets_right = check_offsets(offsets, peptides, letters.len());
-    let letters_right = check_letters(letters);
-    if !offsets_right {
-        return status::BAD_OFFSETS;
-    }
-    if !letters_right {
-        return status::BAD_LETTER;
-    }
-    status::ACCEPTED
+    status::require(offsets_right, Refusal::BadOffsets)?;
+    status::require(check_letters(letters), Refusal::BadLetter)
 }
 
 // A peptide's letters. For the models, which call it on a table that has passed and a peptide's number below its

@@ -4,6 +4,7 @@ use mathlib.Core.Bool.{Bool, true, false, cond}
 use mathlib.Core.List.{List, [], ◌∷◌}
 use Prim.Native.Nat.{ℕ}
 use lib.Ieee.{Float}
+use Rattle.std.specs.Prelude.{Result, Ok, Err}
 use Rattle.status.specs.Status.{bad_file, first_failing}
 use Rattle.status.specs.Told.{gives, told_for}
 use Rattle.rt_matrix.specs.declared.Alignment.{Alignment}
@@ -20,44 +21,43 @@ use Rattle.records.specs.Record.{
   TimeByCall,
   AlignedCall,
 }
-use Rattle.records.specs.declared.AlignedTime.{AlignedTime}
-use Rattle.records.specs.declared.Found.{Found}
-use Rattle.records.specs.declared.Found.TheVariants.{At, Refused}
+use Rattle.status.specs.declared.Refusal.{Refusal}
+use Rattle.status.specs.declared.Refusal.TheVariants.{BadFile}
 
 -- the status of a lookup, by whether the list reaches the file
 abbrev by : Bool → ℕ
 by b = first_failing ((bad_file, b) ∷ [])
 
 -- what is found tells what the status says, and so does a time by it
-found_told_lem : (b : Bool) (a : Alignment) → told_by (cond b (At a) (Refused bad_file)) ≡ told_for (by b) (gives a)
+found_told_lem : (b : Bool) (a : Alignment) → told_by (cond b (Ok a) (Err BadFile)) ≡ told_for (by b) (gives a)
 found_told_lem true a = refl
 found_told_lem false a = refl
 
 time_told_lem : (b : Bool) (a : Alignment) (rt : Float)
-    → time_told (cond b (At a) (Refused bad_file)) rt ≡ told_for (by b) (gives (aligned_by a rt))
+    → time_told (cond b (Ok a) (Err BadFile)) rt ≡ told_for (by b) (gives (aligned_by a rt))
 time_told_lem true a rt = refl
 time_told_lem false a rt = refl
 
-time_by_lem : (found : Found) (rt : Float) → time_told_by (time_by found rt) ≡ time_told found rt
-time_by_lem (At a) rt = refl
-time_by_lem (Refused n) rt = refl
+time_by_lem : (found : Result Alignment Refusal) (rt : Float) → time_told_by (time_by found rt) ≡ time_told found rt
+time_by_lem (Ok a) rt = refl
+time_by_lem (Err r) rt = refl
 
-pub lookup : (records : List Alignment) (file : ℕ) (r : Found) → r ≡ record_of records file
+pub lookup : (records : List Alignment) (file : ℕ) (r : Result Alignment Refusal) → r ≡ record_of records file
     → LookupCall records file r
 lookup records file r e =
     record { answer = e; told = ap told_by e ∙ found_told_lem (reaches records file) (record_at records file) }
 
-pub timed : (found : Found) (rt : Float) (r : AlignedTime) → r ≡ time_by found rt → TimeByCall found rt r
+pub timed : (found : Result Alignment Refusal) (rt : Float) (r : Result Float Refusal) → r ≡ time_by found rt → TimeByCall found rt r
 timed found rt r e = record { answer = e; told = ap time_told_by e ∙ time_by_lem found rt }
 
 -- a lookup, and then a time by what it found
-pub looked_up_and_timed : (records : List Alignment) (file : ℕ) (rt : Float) (found : Found) (r : AlignedTime)
+pub looked_up_and_timed : (records : List Alignment) (file : ℕ) (rt : Float) (found : Result Alignment Refusal) (r : Result Float Refusal)
     → LookupCall records file found → TimeByCall found rt r → AlignedCall records file rt r
 looked_up_and_timed records file rt found r l t =
     record {
-      answer = t.answer ∙ ap (λ (g : Found). time_by g rt) l.answer;
+      answer = t.answer ∙ ap (λ (g : Result Alignment Refusal). time_by g rt) l.answer;
       told =
           t.told
-          ∙ ap (λ (g : Found). time_told g rt) l.answer
+          ∙ ap (λ (g : Result Alignment Refusal). time_told g rt) l.answer
           ∙ time_told_lem (reaches records file) (record_at records file) rt;
     }

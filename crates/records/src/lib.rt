@@ -4,78 +4,42 @@
 ghost use Rattle.std.specs.Prelude.{◌≡◌};
 ghost use Rattle.records.specs.Record.{LookupCall, TimeByCall, AlignedCall};
 
-use matrix::FileIx;
 pub use retention_alignment::Alignment;
+use status::Refusal;
 
-// What a lookup finds: the file's record, or the status for a file that has none.
-#[derive(Clone, Copy)]
-pub enum Found {
-    At(Alignment),
-    Refused(u8),
-}
-
-// A row's aligned time, or the status for a file that has no record.
-#[derive(Clone, Copy)]
-pub enum AlignedTime {
-    At(f32),
-    Refused(u8),
-}
-
-// The record of a file as the list has it; BAD_FILE where the list ends before it.
-fn find(records: &[Alignment], file: u32) -> Found
-    ensures { LookupCall records.now file result }
+// The record with the one NaN for every NaN.
+fn canonical(a: Alignment) -> Alignment
+    ensures { result ≡ a }
 {
-    let f = FileIx(file);
-    let i = f.0 as usize;
-    if i < records.len() {
-        Found::At(records[i])
-    } else {
-        Found::Refused(status::BAD_FILE)
+    Alignment {
+        max_rt: float::canonical32(a.max_rt),
+        slope: float::canonical32(a.slope),
+        intercept: float::canonical32(a.intercept),
+        used: a.used,
+        max_rt_exact: a.max_rt_exact,
+        slope_exact: a.slope_exact,
+        intercept_exact: a.intercept_exact,
     }
 }
 
-// What a lookup found, with the one NaN for every NaN.
-fn canonical(found: Found) -> Found
-    ensures { result ≡ found }
-{
-    match found {
-        Found::At(a) => Found::At(Alignment {
-            max_rt: float::canonical32(a.max_rt),
-            slope: float::canonical32(a.slope),
-            intercept: float::canonical32(a.intercept),
-            used: a.used,
-            max_rt_exact: a.max_rt_exact,
-            slope_exact: a.slope_exact,
-            intercept_exact: a.intercept_exact,
-        }),
-        Found::Refused(status) => Found::Refused(status),
-    }
-}
-
-// The record of a file, with the one NaN for every NaN of the list; BAD_FILE where the list ends before it.
-pub fn record_of(records: &[Alignment], file: u32) -> Found
+// The record of a file, with the one NaN for every NaN of the list; BadFile where the list ends before it.
+pub fn record_of(records: &[Alignment], file: u32) -> Result<Alignment, Refusal>
     ensures { LookupCall records.now file result }
 {
-    canonical(find(records, file))
+    let found = records.get(file as usize).ok_or(Refusal::BadFile)?;
+    Ok(canonical(*found))
 }
 
 // A time by what a lookup found.
-pub fn time_by(found: Found, rt: f32) -> AlignedTime
+pub fn time_by(found: Result<Alignment, Refusal>, rt: f32) -> Result<f32, Refusal>
     ensures { TimeByCall found rt result }
 {
-    match found {
-        Found::At(a) => AlignedTime::At(retention_alignment::aligned_time(
-            a.max_rt,
-            a.slope,
-            a.intercept,
-            rt,
-        )),
-        Found::Refused(status) => AlignedTime::Refused(status),
-    }
+    let a = found?;
+    Ok(retention_alignment::aligned_time(a.max_rt, a.slope, a.intercept, rt))
 }
 
 // The aligned time of a row with this file and this time, by the record that the list has for the file.
-pub fn aligned(records: &[Alignment], file: u32, rt: f32) -> AlignedTime
+pub fn aligned(records: &[Alignment], file: u32, rt: f32) -> Result<f32, Refusal>
     ensures { AlignedCall records.now file rt result }
 {
     time_by(record_of(records, file), rt)

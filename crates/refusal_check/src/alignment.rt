@@ -2,28 +2,20 @@
 ghost use Rattle.std.specs.Prelude.{◌≤◌};
 
 use held::{CELL, COUNT, FLAG, VALUE, VALUES, WORKSPACE};
-use retention_alignment::AlignAnswer;
+use retention_alignment::{FileColumns, Observations};
+use status::Refusal;
 use std::io;
 
-fn number(answer: AlignAnswer) -> u64 {
+// The number of an answer.
+fn number(answer: Result<(), Refusal>) -> u64 {
     match answer {
-        AlignAnswer::Accepted => 0,
-        AlignAnswer::Refused(status) => status as u64,
+        Ok(()) => 0,
+        Err(refusal) => u64::from(refusal.number()),
     }
 }
 
 // Writes what a call answers and leaves, whose workspace has so many cells.
-fn align(
-    out: &impl Print,
-    file: &[u32],
-    peptide: &[u32],
-    label: &[i32],
-    q: &[f32],
-    rt: &[f32],
-    files: usize,
-    peptides: usize,
-    cells: usize,
-) -> io::Result<()>
+fn align(out: &impl Print, observed: Observations<'_>, cells: usize) -> io::Result<()>
     requires { cells ≤ 15350 }
 {
     let mut workspace = [CELL; WORKSPACE];
@@ -35,39 +27,28 @@ fn align(
     let mut slope_exact = [FLAG; VALUES];
     let mut intercept_exact = [FLAG; VALUES];
     let mut aligned = [VALUE; VALUES];
+    let mut columns = FileColumns {
+        max_rt: &mut max_rt,
+        slope: &mut slope,
+        intercept: &mut intercept,
+        used: &mut used,
+        max_rt_exact: &mut max_rt_exact,
+        slope_exact: &mut slope_exact,
+        intercept_exact: &mut intercept_exact,
+    };
     let answer = retention_alignment::global_alignment(
-        file,
-        peptide,
-        label,
-        q,
-        rt,
-        files,
-        peptides,
+        observed,
         &mut workspace[..cells],
-        &mut max_rt,
-        &mut slope,
-        &mut intercept,
-        &mut used,
-        &mut max_rt_exact,
-        &mut slope_exact,
-        &mut intercept_exact,
+        &mut columns,
         &mut aligned,
     );
     vectors::write_token(out, number(answer))?;
     held::write_workspace(out, &workspace)?;
-    let records = held::changed_records(
-        &max_rt,
-        &slope,
-        &intercept,
-        &used,
-        &max_rt_exact,
-        &slope_exact,
-        &intercept_exact,
-    );
-    vectors::write_token(out, held::changed32(records, &aligned))
+    let records = held::changed_records(&columns);
+    vectors::write_token(out, held::changed(records, &aligned, VALUE))
 }
 
-// A row with the time 10.0.
+// A row with the time 10.0, by what differs from case to case (a struct would name it again).
 fn one(
     out: &impl Print,
     file: u32,
@@ -79,12 +60,16 @@ fn one(
 ) -> io::Result<()>
     requires { cells ≤ 15350 }
 {
-    let f = [file];
-    let p = [peptide];
-    let l = [label];
-    let q = [0.0f32];
-    let rt = [10.0f32];
-    align(out, &f, &p, &l, &q, &rt, files, peptides, cells)
+    let observed = Observations {
+        file: &[file],
+        peptide: &[peptide],
+        label: &[label],
+        q: &[0.0],
+        rt: &[10.0],
+        files,
+        peptides,
+    };
+    align(out, observed, cells)
 }
 
 // Two rows.
@@ -96,9 +81,16 @@ fn two(
     files: usize,
     peptides: usize,
 ) -> io::Result<()> {
-    let label = [1i32, 1];
-    let q = [0.0f32; 2];
-    align(out, file, peptide, &label, &q, rt, files, peptides, 8)
+    let observed = Observations {
+        file,
+        peptide,
+        label: &[1, 1],
+        q: &[0.0; 2],
+        rt,
+        files,
+        peptides,
+    };
+    align(out, observed, 8)
 }
 
 // 0: one row, one file; no training row; just the needed workspace.
@@ -110,31 +102,32 @@ fn accepted(out: &impl Print) -> io::Result<()> {
 
 // 0: no row, no peptide. 3: five rows, for which the output by row is too short.
 fn rows(out: &impl Print) -> io::Result<()> {
-    let file = [0u32; 5];
-    let peptide = [0u32; 5];
-    let label = [1i32; 5];
-    let q = [0.0f32; 5];
-    let rt = [10.0f32; 5];
-    align(
-        out,
-        &file[..0],
-        &peptide[..0],
-        &label[..0],
-        &q[..0],
-        &rt[..0],
-        1,
-        0,
-        8,
-    )?;
-    align(out, &file, &peptide, &label, &q, &rt, 1, 1, 8)
+    let none = Observations {
+        file: &[],
+        peptide: &[],
+        label: &[],
+        q: &[],
+        rt: &[],
+        files: 1,
+        peptides: 0,
+    };
+    let five = Observations {
+        file: &[0; 5],
+        peptide: &[0; 5],
+        label: &[1; 5],
+        q: &[0.0; 5],
+        rt: &[10.0; 5],
+        files: 1,
+        peptides: 1,
+    };
+    align(out, none, 8)?;
+    align(out, five, 8)
 }
 
 // 1: two file numbers, one time; with no file, which is 2 too.
 fn lengths(out: &impl Print) -> io::Result<()> {
-    let zeros = [0u32; 2];
-    let rt = [10.0f32];
-    two(out, &zeros, &zeros, &rt, 1, 1)?;
-    two(out, &zeros, &zeros, &rt, 0, 1)
+    two(out, &[0, 0], &[0, 0], &[10.0], 1, 1)?;
+    two(out, &[0, 0], &[0, 0], &[10.0], 0, 1)
 }
 
 // 2: no file; and, with the room too short as well, 4,097 files, 1,048,577 peptides, 1,048,576 peptides in 17 files,
@@ -162,10 +155,7 @@ fn room(out: &impl Print) -> io::Result<()> {
 fn numbers(out: &impl Print) -> io::Result<()> {
     one(out, 2, 0, 1, 2, 1, 8)?;
     one(out, 2, 1, 1, 2, 1, 8)?;
-    let file = [0u32, 1];
-    let peptide = [1u32, 0];
-    let rt = [10.0f32; 2];
-    two(out, &file, &peptide, &rt, 1, 1)?;
+    two(out, &[0, 1], &[1, 0], &[10.0; 2], 1, 1)?;
     one(out, 0, 1, 1, 1, 1, 8)
 }
 

@@ -3,44 +3,45 @@
 ghost use Rattle.std.specs.Prelude.{◌≤◌};
 
 use held::{CELL, CELLS, COUNT, FLAG, VALUE, VALUES, WORKSPACE};
-use run::RunAnswer;
+use run::{Batch, FileColumns, Outputs, Ran, Table};
+use status::Refusal;
 use std::io;
 
-fn write_numbers(out: &impl Print, answer: RunAnswer) -> io::Result<()> {
+fn write_numbers(out: &impl Print, answer: Result<Ran, Refusal>) -> io::Result<()> {
     match answer {
-        RunAnswer::Refused(status) => vectors::write_token(out, status as u64),
-        RunAnswer::Ran {
-            retention,
-            mobility,
-        } => {
+        Err(refusal) => vectors::write_token(out, u64::from(refusal.number())),
+        Ok(ran) => {
             vectors::write_token(out, 0)?;
-            held::write_outcome(out, retention)?;
-            held::write_outcome(out, mobility)
+            held::write_outcome(out, ran.retention)?;
+            held::write_outcome(out, ran.mobility)
         }
     }
 }
 
-// Writes what a call answers and leaves, whose workspace has so many cells.
+// Writes what a call answers and leaves, whose workspace has so many cells, by what differs from case to case (a struct
+// would name it again).
 fn run(
     out: &impl Print,
     file: &[u32],
     peptide: u32,
     label: i32,
     files: usize,
-    letters: &[u8],
-    offsets: &[u32],
-    masses: &[f32],
-    logs: &[f64],
+    table: Table<'_>,
     cells: usize,
 ) -> io::Result<()>
     requires { cells ≤ 15350 }
 {
-    let peptides = [peptide];
-    let labels = [label];
-    let q = [0.0f32];
-    let rt = [10.0f32];
-    let charge = [1u8];
-    let mobility = [0.5f32];
+    let batch = Batch {
+        file,
+        peptide: &[peptide],
+        label: &[label],
+        q: &[0.0],
+        rt: &[10.0],
+        charge: &[1],
+        mobility: &[0.5],
+        files,
+        table,
+    };
     let mut workspace = [CELL; WORKSPACE];
     let mut max_rt = [VALUE; VALUES];
     let mut slope = [VALUE; VALUES];
@@ -56,47 +57,37 @@ fn run(
     let mut mobility_beta = [CELL; CELLS];
     let mut mobility_predicted = [VALUE; VALUES];
     let mut mobility_error = [VALUE; VALUES];
+    let mut columns = FileColumns {
+        max_rt: &mut max_rt,
+        slope: &mut slope,
+        intercept: &mut intercept,
+        used: &mut used,
+        max_rt_exact: &mut max_rt_exact,
+        slope_exact: &mut slope_exact,
+        intercept_exact: &mut intercept_exact,
+    };
+    let retention = Outputs {
+        beta: &mut retention_beta,
+        predicted: &mut retention_predicted,
+        error: &mut retention_error,
+    };
+    let mobility = Outputs {
+        beta: &mut mobility_beta,
+        predicted: &mut mobility_predicted,
+        error: &mut mobility_error,
+    };
     let answer = run::run(
-        file,
-        &peptides,
-        &labels,
-        &q,
-        &rt,
-        &charge,
-        &mobility,
-        files,
-        letters,
-        offsets,
-        masses,
-        logs,
+        batch,
         &mut workspace[..cells],
-        &mut max_rt,
-        &mut slope,
-        &mut intercept,
-        &mut used,
-        &mut max_rt_exact,
-        &mut slope_exact,
-        &mut intercept_exact,
+        &mut columns,
         &mut aligned,
-        &mut retention_beta,
-        &mut retention_predicted,
-        &mut retention_error,
-        &mut mobility_beta,
-        &mut mobility_predicted,
-        &mut mobility_error,
+        retention,
+        mobility,
     );
     write_numbers(out, answer)?;
     held::write_workspace(out, &workspace)?;
-    let records = held::changed_records(
-        &max_rt,
-        &slope,
-        &intercept,
-        &used,
-        &max_rt_exact,
-        &slope_exact,
-        &intercept_exact,
-    );
-    let times = held::changed32(records, &aligned);
+    let records = held::changed_records(&columns);
+    let times = held::changed(records, &aligned, VALUE);
     let n = held::changed_model(
         times,
         &retention_beta,
@@ -109,7 +100,7 @@ fn run(
     )
 }
 
-// A training row, and a table of one peptide of one letter whose offsets are 0 and `end`.
+// A training row, and a table of one peptide of one letter whose offsets are 0 and `end`, likewise.
 fn one(
     out: &impl Print,
     file: u32,
@@ -121,38 +112,37 @@ fn one(
 ) -> io::Result<()>
     requires { cells ≤ 15350 }
 {
-    let number = [file];
-    let letters = [letter];
-    let offsets = [0u32, end];
-    let masses = [0.0f32];
-    let logs = [0.0f64];
-    run(
-        out, &number, peptide, 1, files, &letters, &offsets, &masses, &logs, cells,
-    )
+    let table = Table {
+        letters: &[letter],
+        offsets: &[0, end],
+        masses: &[0.0],
+        logs: &[0.0],
+    };
+    run(out, &[file], peptide, 1, files, table, cells)
 }
 
 // A training row in file 0 of 1, and a table of two peptides with the offsets 0, b and c.
 fn two(out: &impl Print, letters: &[u8], b: u32, c: u32) -> io::Result<()> {
-    let zero = [0u32];
-    let offsets = [0u32, b, c];
-    let masses = [0.0f32; 2];
-    let logs = [0.0f64; 2];
-    run(
-        out, &zero, 0, 1, 1, letters, &offsets, &masses, &logs, 15350,
-    )
+    let table = Table {
+        letters,
+        offsets: &[0, b, c],
+        masses: &[0.0; 2],
+        logs: &[0.0; 2],
+    };
+    run(out, &[0], 0, 1, 1, table, 15350)
 }
 
 // The peptide A, in file 0 of 1.
 fn fitted(out: &impl Print, label: i32, mass: f32, log: f64, cells: usize) -> io::Result<()>
     requires { cells ≤ 15350 }
 {
-    let zero = [0u32];
-    let offsets = [0u32, 1];
-    let masses = [mass];
-    let logs = [log];
-    run(
-        out, &zero, 0, label, 1, b"A", &offsets, &masses, &logs, cells,
-    )
+    let table = Table {
+        letters: b"A",
+        offsets: &[0, 1],
+        masses: &[mass],
+        logs: &[log],
+    };
+    run(out, &[0], 0, label, 1, table, cells)
 }
 
 // 0: both fits 0, with just the needed workspace and with more; no training row, so both fits 8; 9 for retention, for
@@ -169,24 +159,16 @@ fn accepted(out: &impl Print) -> io::Result<()> {
 
 // 1: two file numbers, one time; with no file, which is 2 too; no log for a mass.
 fn lengths(out: &impl Print) -> io::Result<()> {
-    let zeros = [0u32; 2];
-    let offsets = [0u32, 1];
-    let masses = [0.0f32];
-    let logs = [0.0f64];
-    run(out, &zeros, 0, 1, 1, b"A", &offsets, &masses, &logs, 15350)?;
-    run(out, &zeros, 0, 1, 0, b"A", &offsets, &masses, &logs, 15350)?;
-    run(
-        out,
-        &zeros[..1],
-        0,
-        1,
-        1,
-        b"A",
-        &offsets,
-        &masses,
-        &logs[..0],
-        15350,
-    )
+    let table = Table {
+        letters: b"A",
+        offsets: &[0, 1],
+        masses: &[0.0],
+        logs: &[0.0],
+    };
+    run(out, &[0, 0], 0, 1, 1, table, 15350)?;
+    run(out, &[0, 0], 0, 1, 0, table, 15350)?;
+    let unlogged = Table { logs: &[], ..table };
+    run(out, &[0], 0, 1, 1, unlogged, 15350)
 }
 
 // 2: no file; 4,097 files, for which the room is too short as well. 3: a workspace a cell too short; with offsets past

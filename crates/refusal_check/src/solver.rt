@@ -1,19 +1,21 @@
 // Calls of the solver.
 ghost use Rattle.std.specs.Prelude.{◌≤◌};
 
-use gauss::SolveAnswer;
 use held::{CELL, CELLS, WORKSPACE};
+use status::Refusal;
 use std::io;
 
-fn number(answer: SolveAnswer) -> u64 {
+// The number of an answer.
+fn number(answer: Result<Option<f64>, Refusal>) -> u64 {
     match answer {
-        SolveAnswer::Solved(_) => 0,
-        SolveAnswer::Unsolved => 9,
-        SolveAnswer::Refused(status) => status as u64,
+        Ok(Some(_)) => 0,
+        Ok(None) => u64::from(status::NOT_SOLVED),
+        Err(refusal) => u64::from(refusal.number()),
     }
 }
 
-// Writes what a call answers and leaves, whose workspace and solution have so many cells.
+// Writes what a call answers and leaves, whose workspace and solution have so many cells: by what differs from case to
+// case (a struct would name it again).
 fn solve(
     out: &impl Print,
     left: &[f64],
@@ -37,16 +39,14 @@ fn solve(
     );
     vectors::write_token(out, number(answer))?;
     held::write_workspace(out, &workspace)?;
-    vectors::write_token(out, held::changed64(0, &solution))
+    vectors::write_token(out, held::changed(0, &solution, CELL))
 }
 
 // A system of order 1.
 fn one(out: &impl Print, left: f64, right: f64, cells: usize, outputs: usize) -> io::Result<()>
     requires { (cells ≤ 15350) × (outputs ≤ 101) }
 {
-    let lefts = [left];
-    let rights = [right];
-    solve(out, &lefts, &rights, 1, 1, cells, outputs)
+    solve(out, &[left], &[right], 1, 1, cells, outputs)
 }
 
 // 0: just the needed room; more of it. 3: a workspace, and a solution, that is a cell too short.

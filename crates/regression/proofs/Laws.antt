@@ -7,12 +7,13 @@ use native.Mathlib.Nat.{not-suc-le-zero, le_of_eq}
 use native.Mathlib.Omega.{arith}
 use lib.ListN.{length, length-append, get_or-append}
 use lib.Ieee.{Float, nan, binary64, add, mul}
+use Rattle.std.specs.Prelude.{Err}
 use Rattle.float.specs.Number.{zero64}
 use Rattle.matrix.proofs.Laws.{Wide}
 use Rattle.matrix.specs.Lists.{zipped, tabulate}
 use Rattle.matrix.proofs.Lists.{length_tabulate, tabulate_same, wide_tabulate, zipped_tabulate, zipped_snoc}
 use Rattle.elimination.specs.Ridge.{first_solved, ridges}
-use Rattle.regression.specs.declared.FitOutcome.TheVariants.{NoTrainingRows}
+use Rattle.regression.specs.declared.Unfitted.TheVariants.{NoTrainingRows}
 use Rattle.regression.specs.Regression.{Sample, extended, total, column, cov, rhs, normal, add_row}
 use Rattle.regression.specs.Regression.{no_sums, plus_target, sums_of, squared_error, sse, fit_from, fit_of}
 use Rattle.packed_rows.specs.Added.{plus_scaled}
@@ -79,7 +80,7 @@ sse_snoc beta ss s = total_snoc (squared_error beta) ss s
 
 -- the fit of no sample, and of some
 pub fit_none : (D : ℕ) (ss : List Sample) → length ss ≡ 0
-    → fit_of D ss ≡ record { outcome = NoTrainingRows; coefficients = [] }
+    → fit_of D ss ≡ record { outcome = Err NoTrainingRows; coefficients = [] }
 unfolding fit_of
 fit_none D [] h = refl
 fit_none D (s ∷ ss) h = absurd (omega arith)

@@ -170,23 +170,27 @@ module _ (D : ℕ) (rows : List (List Float)) (count : length rows ≡ D) (shape
   row_long : (j : ℕ) → j < D → length (get_or rows j []) ≡ D + 1 - j
   row_long j h = falling_row (D + 1) rows j shape (omega arith)
 
+  -- the full row from the diagonal on
+  pub from_diagonal : (j : ℕ) → j < D → drop j (tabulate (D + 1) (mirrored rows j)) ≡ get_or rows j []
+  from_diagonal j h =
+      drop_tabulate j (D + 1) (mirrored rows j)
+      ∙ tabulate_same (D + 1 - j) _ (λ k. get_or (get_or rows j []) k nan) (λ k l. cell_is j k)
+      ∙ tabulate_cells (D + 1 - j) (get_or rows j []) nan (row_long j h)
+    where
+      cell_is : (j k : ℕ) → mirrored rows j (j + k) ≡ get_or (get_or rows j []) k nan
+      cell_is j k =
+          let a : min j (j + k) ≡ j = omega arith in
+          let b : max j (j + k) - j ≡ k = omega arith in
+          rw (a, b)
+
   -- unfolded and folded again
   pub folded_unfolded : folded D (unfolded D rows) ≡ rows
   unfolding folded unfolded
   folded_unfolded =
       tabulate_same D _ (λ j. get_or rows j [])
       (λ j h.
-      ap (drop j) (get_d_tabulate D (λ i. tabulate (D + 1) (mirrored rows i)) j [] h)
-      ∙ drop_tabulate j (D + 1) (mirrored rows j)
-      ∙ tabulate_same (D + 1 - j) _ (λ k. get_or (get_or rows j []) k nan) (λ k l. from_diagonal j k)
-      ∙ tabulate_cells (D + 1 - j) (get_or rows j []) nan (row_long j h))
+      ap (drop j) (get_d_tabulate D (λ i. tabulate (D + 1) (mirrored rows i)) j [] h) ∙ from_diagonal j h)
       ∙ tabulate_cells D rows [] count
-    where
-      from_diagonal : (j k : ℕ) → mirrored rows j (j + k) ≡ get_or (get_or rows j []) k nan
-      from_diagonal j k =
-          let a : min j (j + k) ≡ j = omega arith in
-          let b : max j (j + k) - j ≡ k = omega arith in
-          rw (a, b)
 
   module _ (ext : List Float) (wide : length ext ≡ D + 1) where
     -- what is stored of the full rows with a sample added is what is stored with the sample added

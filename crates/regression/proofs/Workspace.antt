@@ -9,6 +9,7 @@ use lib.Ieee.{Float}
 use lib.ListN.{length, take, drop, replicate, length-append, length-drop, length-replicate}
 use lib.ListN.{replicate-append-replicate, drop_of_length-le}
 use lib.Seq.{take_all, take_at, drop_at, length-take-le}
+use Rattle.std.specs.Prelude.{Some, None}
 use Rattle.params.specs.Slice.{change}
 use Rattle.float.specs.Number.{zero64}
 use Rattle.matrix.specs.Rows.{flat}
@@ -22,7 +23,6 @@ use Rattle.regression.specs.Sparse.{add_visited}
 use Rattle.regression.specs.Workspace.{workspace_cells, system_length, stored, equations, with_stored, with_equations}
 use Rattle.regression.specs.Workspace.{cleared, holding, FitSlices}
 use Rattle.regression.specs.Solve.{SolvedBy, solution_in, ridge_of}
-use Rattle.regression.specs.declared.FirstRidge.TheVariants.{Solves, None}
 use Rattle.regression.proofs.Laws.{normal_snoc}
 use Rattle.packed_rows.proofs.Falling.{Falling, falling_rows_lem, length_falling}
 use Rattle.regression.proofs.Triangle.{length_triangle, rows_of_triangle, triangle_nil, cells_triangle}
@@ -159,7 +159,7 @@ module _ (D : ℕ) where
 -- ---- what the answer of `solve` says
 
 module _ (D : ℕ) (s t : FitSlices) where
-  solution_solved : (x : Solution) (eps : Float) (beta₀ beta₁ : List Float) → Solves eps ≡ ridge_of x
+  solution_solved : (x : Solution) (eps : Float) (beta₀ beta₁ : List Float) → Some eps ≡ ridge_of x
       → beta₁ ≡ written x beta₀
       → x ≡ solved eps beta₁
   solution_solved (solved ridge cells) eps beta₀ beta₁ a b = cc (a, b)
@@ -169,7 +169,7 @@ module _ (D : ℕ) (s t : FitSlices) where
   solution_none (solved ridge cells) a = cc (a)
   solution_none unsolved a = refl
 
-  pub solve_solved : (eps : Float) → SolvedBy D (change s t) (Solves eps)
+  pub solve_solved : (eps : Float) → SolvedBy D (change s t) (Some eps)
       → solution_in D s.workspace ≡ solved eps t.coefficients
   solve_solved eps h = solution_solved _ eps s.coefficients t.coefficients h.answer h.coefficients
 

@@ -1,7 +1,7 @@
 -- Linear regression over a list of samples by the normal equations. Every product, sum and quotient is IEEE 754's on
 -- binary64, rounded once, and every sum goes over the samples in their order, from 0.0. Definitions only.
 use mathlib.Core.List.{List, [], ◌∷◌, ◌++◌, map, zip_with}
-use Rattle.std.specs.Prelude.{ℕ, ◌+◌, length, get_or, Float}
+use Rattle.std.specs.Prelude.{ℕ, ◌+◌, length, get_or, Float, Result, Ok, Err}
 use Rattle.std.specs.Float.{nan, binary64}
 use Rattle.std.specs.Float.Ieee.{add, sub, mul, div}
 use Rattle.float.specs.Number.{zero64, one64, number, sum_from}
@@ -11,8 +11,9 @@ use Rattle.matrix.specs.Lists.{tabulate, zipped}
 use Rattle.elimination.specs.Ridge.{Solution, solved, unsolved, first_solved, ridges}
 use Rattle.packed_rows.specs.Added.{plus_scaled}
 use Rattle.regression.specs.declared.Sums.{Sums}
-use Rattle.regression.specs.declared.FitOutcome.{FitOutcome}
-use Rattle.regression.specs.declared.FitOutcome.TheVariants.{Solved, NoTrainingRows, NotSolved}
+use Rattle.regression.specs.declared.Fit.{Fit}
+use Rattle.regression.specs.declared.Unfitted.{Unfitted}
+use Rattle.regression.specs.declared.Unfitted.TheVariants.{NoTrainingRows, NotSolved}
 
 -- a training row: its design row and its target
 pub record Sample : Type 0 where
@@ -104,31 +105,35 @@ r2_of t errors = sub binary64 one64 (div binary64 errors (y_var t))
 
 -- ---- the fit
 
--- what a fit answers, and its coefficients
-pub record Fit : Type 0 where
-  pub outcome : FitOutcome
+-- what a fit answers, which the code's alias `FitOutcome` names
+abbrev pub Outcome : Type 0
+Outcome = Result Fit Unfitted
+
+-- and its coefficients
+pub record Fitting : Type 0 where
+  pub outcome : Outcome
   pub coefficients : List Float
 
 -- of the samples and the solution of their normal equations
-abbrev pub fit_from : List Sample → Solution → Fit
+abbrev pub fit_from : List Sample → Solution → Fitting
 fit_from ss (solved ridge beta) =
-    record { outcome = Solved ridge (r2_of (sums_of ss) (sse beta ss)) (length ss); coefficients = beta }
-fit_from ss unsolved = record { outcome = NotSolved; coefficients = [] }
+    record {
+      outcome = Ok (record { ridge = ridge; r2 = r2_of (sums_of ss) (sse beta ss); n = length ss });
+      coefficients = beta;
+    }
+fit_from ss unsolved = record { outcome = Err NotSolved; coefficients = [] }
 
 -- of order D: the coefficients are the solution for the first ridge of the series that solves the normal equations
-unfoldable pub fit_of : ℕ → List Sample → Fit
-fit_of D [] = record { outcome = NoTrainingRows; coefficients = [] }
+unfoldable pub fit_of : ℕ → List Sample → Fitting
+fit_of D [] = record { outcome = Err NoTrainingRows; coefficients = [] }
 fit_of D (s ∷ ss) = fit_from (s ∷ ss) (first_solved D (normal D (s ∷ ss)) ridges)
 
--- ---- what an outcome tells
+-- ---- what an outcome tells: ridge, r2 and n, which only a solved fit has, or why there are none
 
--- ridge, r2 and n, which only a solved fit has
-pub record Values : Type 0 where
-  pub ridge : Float
-  pub r2 : Float
-  pub n : ℕ
+abbrev pub unfitted_status : Unfitted → ℕ
+unfitted_status NoTrainingRows = no_training
+unfitted_status NotSolved = not_solved
 
-abbrev pub told_by : FitOutcome → Told Values
-told_by (Solved ridge r2 n) = gives (record { ridge = ridge; r2 = r2; n = n })
-told_by NoTrainingRows = only no_training
-told_by NotSolved = only not_solved
+abbrev pub told_by : Outcome → Told Fit
+told_by (Ok fit) = gives fit
+told_by (Err u) = only (unfitted_status u)

@@ -17,17 +17,15 @@ ghost use Rattle.regression.specs.Sparse.{
 
 use packed_rows::{add_four_rows, add_one_row, run_from};
 
-// Whether no cell is a NaN or an infinity.
-pub(crate) fn all_finite(cells: &[f64]) -> bool
+// Whether no cell is a NaN or an infinity. (No cell ends the loop, so that it is vectorized.)
+pub fn all_finite(cells: &[f64]) -> bool
     ensures { result ≡ all_finite cells.now }
 {
     let mut finite = true;
-    let mut k = 0usize;
-    while k < cells.len() {
-        if !float::is_finite64(cells[k]) {
+    for &cell in cells {
+        if !float::is_finite64(cell) {
             finite = false;
         }
-        k += 1;
     }
     finite
 }
@@ -48,15 +46,13 @@ pub(crate) fn gather(ext: &[f64], places: &mut [usize], values: &mut [f64]) -> u
     ensures value { result ≡ length (nonzeros 0 ext.now) }
     ensures nonzeros { Nonzeros 0 ext.now (take result places.new) (take result values.new) }
 {
-    let mut n = 0usize;
-    let mut j = 0usize;
-    while j < ext.len() {
+    let mut n = 0;
+    for (j, &cell) in ext.iter().enumerate() {
         places[n] = j;
-        values[n] = ext[j];
-        if ext[j] != 0.0 {
+        values[n] = cell;
+        if cell != 0.0 {
             n += 1;
         }
-        j += 1;
     }
     n
 }
@@ -93,7 +89,8 @@ pub(crate) fn add_listed(
 {
     let k = columns(places.len(), target);
     let h = run_from(places, w);
-    let mut m = 0usize;
+    // (a step is four places or one, so that no range or iterator gives the next m)
+    let mut m = 0;
     while m < k {
         if m + 4 <= k {
             add_four_rows(acc, places, values, starts, m, h);

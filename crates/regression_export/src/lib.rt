@@ -1,5 +1,5 @@
 // The two steps that add a sample to the stored normal equations, and the starts that one of them reads, under C names,
-// for tests of the compiled code.
+// for tests of the compiled code. A C name needs a function of its own, so each repeats a signature.
 #![tactic(auto)]
 
 ghost use Rattle.std.specs.Prelude.{◌≡◌, ◌+◌, ◌≤◌, ◌<◌, length};

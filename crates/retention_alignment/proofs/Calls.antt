@@ -1,37 +1,25 @@
 -- What a status says of a call, and the contract of a refused and of an accepted one.
-use mathlib.Core.Path.{◌≡◌, refl, ◌∙◌}
-use mathlib.Core.Bool.{Bool, true, false, ◌&&◌}
-use mathlib.Core.List.{[], ◌∷◌, ◌++◌}
+use mathlib.Core.Path.{◌≡◌, refl, ap, ◌∙◌}
+use mathlib.Core.Bool.{Bool, true, false, cond, ◌&&◌}
+use mathlib.Core.List.{[], ◌∷◌}
 use Prim.Native.Nat.{ℕ, ◌*◌, ◌≤◌, ◌<◌}
 use native.Mathlib.Omega.{arith}
 use lib.Dec.{eqb, leb}
-use lib.ListN.{length, drop, get_or, replicate}
-use borrow.Author.Tests.{leb-true, eq-eqb, ne_eqb}
+use lib.ListN.{length, get_or}
+use borrow.Author.Tests.{leb-true, eq-eqb, eqb-true}
 use Rattle.params.specs.Slice.{change}
-use Rattle.float.specs.Number.{zero64}
-use Rattle.matrix.proofs.Lists.{overwrite_front}
-use Rattle.status.specs.Checks.{every, all_below}
-use Rattle.status.specs.Status.{accepted}
+use Rattle.status.specs.Checks.{every, all_below, lengths_agree}
+use Rattle.std.specs.Prelude.{⊤, Result, Ok, Err}
+use Rattle.status.specs.Limits.{within_limits}
+use Rattle.status.specs.Status.{accepted, bad_lengths, past_limit, too_short, bad_file, bad_peptide}
+use Rattle.status.specs.Status.{first_failing, refusal_by, checked}
+use Rattle.status.specs.Told.{gives, told_for}
+use Rattle.status.specs.declared.Refusal.{Refusal}
 use Rattle.status.proofs.Laws.{Limits, limits, length_at, and_true}
 use Rattle.status.proofs.First.{passed_at_lem}
-use Rattle.rt_matrix.specs.Columns.{EachOf, EachFrom, file_room, each_long, in_front}
-use Rattle.rt_matrix.proofs.RecordColumns.{in_front_lem, long_columns}
-use Rattle.retention_alignment.specs.Call.{
-  Input,
-  Slices,
-  room_of,
-  checks,
-  status_by,
-  status,
-  answer_of,
-  records_for,
-  filled,
-  slices_after,
-  Written,
-  Filled,
-  Aligned,
-}
-use Rattle.retention_alignment.specs.declared.AlignAnswer.TheVariants.{Accepted, Refused}
+use Rattle.rt_matrix.specs.Columns.{EachFrom, file_room, each_long}
+use Rattle.rt_matrix.proofs.RecordColumns.{long_columns}
+use Rattle.retention_alignment.specs.Call.{Input, Slices, room_of, long_enough, checks, status_by, status, answer_of, told_by, slices_after, Filled, Aligned}
 
 -- ---- an input that passed the checks
 
@@ -76,37 +64,56 @@ module _ (i : Input) (s : Slices) (accept : status i s ≡ accepted) where
 
 -- ---- the contract
 
+-- what the checks answer tells their status
+told_checks : (a b c d e : Bool)
+    → let n =
+    first_failing
+    ((bad_lengths, a) ∷ (past_limit, b) ∷ (too_short, c) ∷ (bad_file, d) ∷ (bad_peptide, e) ∷ []) in
+    told_by (checked n) ≡ told_for n (gives tt)
+told_checks false b c d e = refl
+told_checks true false c d e = refl
+told_checks true true false d e = refl
+told_checks true true true false e = refl
+told_checks true true true true false = refl
+told_checks true true true true true = refl
+
+-- the checks' answer and their status
+abbrev ok : Result ⊤ Refusal
+ok = Ok tt
+
+refused_status : {r : Refusal} (n : ℕ) → Err r ≡ checked n → eqb n accepted ≡ false
+refused_status n e = go (eqb n accepted) e
+  where
+    go : {r : Refusal} (b : Bool) → Err r ≡ cond b ok (Err (refusal_by n)) → b ≡ false
+    go true e = cc
+    go false e = refl
+
+pub accepted_status : (n : ℕ) → ok ≡ checked n → n ≡ accepted
+accepted_status n e = eqb-true n accepted (go (eqb n accepted) e)
+  where
+    go : (b : Bool) → ok ≡ cond b ok (Err (refusal_by n)) → b ≡ true
+    go true e = refl
+    go false e = cc
+
 -- a refused call
-pub refused : (i : Input) (s : Slices) (n : ℕ) → n ≡ status i s → (n ≡ 0 → ⊥)
-    → Aligned i (change s s) (Refused n)
-unfolding answer_of slices_after
-refused i s n e h =
-    let test : eqb (status i s) accepted ≡ false = ne_eqb (status i s) 0 (λ z. h (e ∙ z)) in
-    rw e (record { answer = simp test; told = simp test; slices = simp test })
+pub refused : (i : Input) (s : Slices) (r : Refusal) → Err r ≡ checked (status i s) → Aligned i (change s s) (Err r)
+unfolding answer_of slices_after status_by
+refused i s r e =
+    let rows : ℕ = length i.file in
+    record {
+      answer = e;
+      told =
+          ap told_by e
+          ∙ told_checks (lengths_agree rows (length i.peptide ∷ length i.label ∷ length i.q ∷ length i.rt ∷ []))
+          (within_limits i.files rows i.peptides) (long_enough i.files i.peptides rows (room_of s))
+          (all_below i.files i.file) (all_below i.peptides i.peptide);
+      slices = rw (refused_status (status i s) e) refl;
+    }
 
 -- an accepted call
 pub accepted_is : (i : Input) (s t : Slices) → status i s ≡ accepted → Filled i (change s t)
-    → Aligned i (change s t) Accepted
+    → Aligned i (change s t) (Ok tt)
 unfolding answer_of slices_after
 accepted_is i s t e f =
     let test : eqb (status i s) accepted ≡ true = eq-eqb (status i s) 0 e in
     record { answer = simp test; told = simp test; slices = rw test f.slices }
-
--- what the work on the parts left
-pub filled_is : (i : Input) (before parts : Slices) (cells : ℕ)
-    → cells ≡ i.peptides * i.files → Written i parts
-    → length parts.workspace ≡ cells → EachOf i.files parts.records
-    → length parts.aligned ≡ length i.file
-    → Filled i (change before (record {
-      workspace = parts.workspace ++ drop cells before.workspace;
-      records = in_front i.files parts.records before.records;
-      aligned = parts.aligned ++ drop (length i.file) before.aligned;
-    }))
-unfolding filled
-filled_is i before parts cells n w lw lr la =
-    let workspace_is =
-    overwrite_front (replicate (i.peptides * i.files) zero64) parts.workspace before.workspace cells
-    w.workspace lw in
-    let records_is = in_front_lem i.files before.records parts.records (records_for i) lr w.records in
-    let aligned_is = overwrite_front _ parts.aligned before.aligned (length i.file) w.aligned la in
-    record { slices = λ k. record { workspace = workspace_is k; records = records_is k; aligned = aligned_is k } }

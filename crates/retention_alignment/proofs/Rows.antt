@@ -1,5 +1,5 @@
 -- The rows from i on, as columns that are walked side by side.
-use mathlib.Core.Path.{◌≡◌, refl, sym, ap, ap₂, ◌∙◌}
+use mathlib.Core.Path.{◌≡◌, refl, ap, ap₂, ◌∙◌}
 use mathlib.Core.Bool.{Bool, true, cond}
 use mathlib.Core.List.{List, [], ◌∷◌, map}
 use Prim.Native.Nat.{ℕ, zero, suc, ◌+◌, ◌≤◌, ◌<◌}
@@ -15,9 +15,9 @@ use lib.Ieee.{Float, nan}
 use Rattle.status.specs.Checks.{every, all_below}
 use Rattle.status.proofs.Laws.{and_true}
 use Rattle.feature.specs.Feature.{trains, mask, kept}
-use Rattle.rt_matrix.specs.Columns.{FileColumns, EachOf, records_of}
+use Rattle.rt_matrix.specs.Columns.{FileColumns, columns_of, written_over}
 use Rattle.rt_matrix.specs.declared.Alignment.{Alignment}
-use Rattle.rt_matrix.proofs.RecordColumns.{records_at}
+use Rattle.rt_matrix.proofs.RecordColumns.{written_at}
 use Rattle.retention_alignment.specs.Observation.{Obs, observations}
 use Rattle.retention_alignment.specs.Alignments.{aligned_by, no_alignment, aligned, aligned_in}
 
@@ -86,16 +86,21 @@ module _ (fs ps : List ℕ) (ts : List Float) where
         nothing [] = refl
         nothing (b ∷ m) = refl
 
--- rows whose files have records: the times by the three columns are the times by the records
-pub by_records : (c : FileColumns) (n : ℕ) → EachOf n c → (fs ps : List ℕ) (ts : List Float)
-    → all_below n fs ≡ true
-    → map (aligned_in c.max_rt c.slope c.intercept) (observations fs ps ts)
-    ≡ map (aligned (records_of c)) (observations fs ps ts)
+-- rows whose files have records: the times by the three columns that these are written over are the times by the records
+pub by_records : (records : List Alignment) (c : FileColumns) (n : ℕ) → length records ≡ n → (fs ps : List ℕ)
+    (ts : List Float) → all_below n fs ≡ true
+    → let w = written_over (columns_of records) c in
+    map (aligned_in w.max_rt w.slope w.intercept) (observations fs ps ts)
+    ≡ map (aligned records) (observations fs ps ts)
 unfolding observations aligned every
-by_records c n e [] ps ts h = refl
-by_records c n e (f ∷ fs) [] ts h = refl
-by_records c n e (f ∷ fs) (p ∷ ps) [] h = refl
-by_records c n e (f ∷ fs) (p ∷ ps) (t ∷ ts) h =
+by_records records c n e [] ps ts h = refl
+by_records records c n e (f ∷ fs) [] ts h = refl
+by_records records c n e (f ∷ fs) (p ∷ ps) [] h = refl
+by_records records c n e (f ∷ fs) (p ∷ ps) (t ∷ ts) h =
     let both = and_true (ltb f n) (all_below n fs) h in
-    let at = records_at c n e f no_alignment (ltb-true f n both.0) in
-    ap₂ (λ (a : Alignment) (rest : List Float). aligned_by a t ∷ rest) (sym at) (by_records c n e fs ps ts both.1)
+    let l : f < length records = omega (arith, ltb-true f n both.0) in
+    let max_rt_is = written_at (λ a. a.max_rt) records c.max_rt f nan no_alignment l in
+    let slope_is = written_at (λ a. a.slope) records c.slope f nan no_alignment l in
+    let intercept_is = written_at (λ a. a.intercept) records c.intercept f nan no_alignment l in
+    rw (max_rt_is, slope_is, intercept_is)
+    (ap (λ (rest : List Float). aligned_by (get_or records f no_alignment) t ∷ rest) (by_records records c n e fs ps ts both.1))

@@ -1,20 +1,23 @@
 -- A call of `global_alignment`: its status, and what it leaves in every slice. Definitions only.
-use Rattle.std.specs.Prelude.{◌≡◌, Bool, true, ◌&&◌, List, [], ◌∷◌, map, ℕ, ◌*◌, ◌≤◌, leb, ℤ, length, replicate, Float}
+use Rattle.std.specs.Prelude.{◌≡◌, Bool, ◌&&◌, List, [], ◌∷◌, map, ℕ, ◌*◌, leb, ℤ, length, replicate, Float}
+use Rattle.std.specs.Prelude.{⊤, Result, Ok, Err}
+use Rattle.std.specs.Borrow.{Bor}
 use Rattle.params.specs.Slice.{Held, MutHeld, Change, change, Slice, MutSlice}
 use Rattle.float.specs.Number.{zero64}
 use Rattle.matrix.specs.Lists.{overwritten}
 use Rattle.feature.specs.Feature.{mask, kept}
 use Rattle.status.specs.Checks.{all_below, lengths_agree}
-use Rattle.status.specs.Limits.{within_limits, max_files, max_peptides, max_cells}
+use Rattle.status.specs.Limits.{within_limits}
 use Rattle.status.specs.Status.{bad_lengths, past_limit, too_short, bad_file, bad_peptide, first_failing}
+use Rattle.status.specs.Status.{number_of, checked}
+use Rattle.status.specs.declared.Refusal.{Refusal}
 use Rattle.status.specs.Told.{Told, gives, only, if_accepted, told_for}
-use Rattle.rt_matrix.specs.Columns.{FileColumns, EachOf, columns_of, records_of, written_over, file_room, each_long}
+use Rattle.rt_matrix.specs.Columns.{FileColumns, FileRoom, columns_of, held_columns, written_over, file_room, each_long}
 use Rattle.rt_matrix.specs.declared.Alignment.{Alignment}
+use Rattle.rt_matrix.specs.declared.FileColumns.{FileColumns as FileSlices}
 use Rattle.retention_alignment.specs.Observation.{Obs, observations, max_rts}
 use Rattle.retention_alignment.specs.Alignments.{alignments, aligned}
-use Rattle.retention_alignment.specs.declared.Room.{Room}
-use Rattle.retention_alignment.specs.declared.AlignAnswer.{AlignAnswer}
-use Rattle.retention_alignment.specs.declared.AlignAnswer.TheVariants.{Accepted, Refused}
+use Rattle.retention_alignment.specs.declared.Observations.{Observations}
 
 -- what is read: the columns, and the numbers of files and of peptides
 pub record Input : Type 0 where
@@ -32,9 +35,33 @@ pub record Slices : Type 0 where
   pub records : FileColumns
   pub aligned : List Float
 
+-- the lengths of the slices
+pub record Room : Type 0 where
+  pub workspace : ℕ
+  pub records : FileRoom
+  pub aligned : ℕ
+
 -- ---- as a function's parameters hold them
 
--- in a `requires`
+-- the columns that are read, where a function takes them together
+abbrev pub held_input : Observations → Input
+held_input o =
+    record {
+      file = o.file.now;
+      peptide = o.peptide.now;
+      label = o.label.now;
+      q = o.q.now;
+      rt = o.rt.now;
+      files = o.files;
+      peptides = o.peptides;
+    }
+
+-- what will be written, as a function that only measures it holds it
+abbrev pub held_slices : (workspace : Held Float) (records : Bor FileSlices) (aligned : Held Float) → Slices
+held_slices workspace records aligned =
+    record { workspace = workspace.now; records = held_columns records.now; aligned = aligned.now }
+
+-- where it takes them one by one, in a `requires`
 abbrev pub input_at : (file peptide : Held ℕ) (label : Held ℤ) (q rt : Held Float) (files peptides : ℕ) → Input
 input_at file peptide label q rt files peptides =
     record {
@@ -93,16 +120,23 @@ status_by i room = first_failing (checks i room)
 abbrev pub status : Input → Slices → ℕ
 status i s = status_by i (room_of s)
 
+-- the columns of the rows have one length
+pub record SameRows (i : Input) : Type 0 where
+  pub peptide : length i.peptide ≡ length i.file
+  pub label : length i.label ≡ length i.file
+  pub q : length i.q ≡ length i.file
+  pub rt : length i.rt ≡ length i.file
+
 -- ---- the answer
 
 -- what every case of it tells: an alignment has no values
-abbrev pub told_by : AlignAnswer → Told (Unit {0})
-told_by Accepted = gives tt
-told_by (Refused n) = only n
+abbrev pub told_by : Result ⊤ Refusal → Told (Unit {0})
+told_by (Ok _) = gives tt
+told_by (Err r) = only (number_of r)
 
 -- the answer for a status
-unfoldable pub answer_of : ℕ → AlignAnswer
-answer_of s = if_accepted s Accepted (Refused s)
+unfoldable pub answer_of : ℕ → Result ⊤ Refusal
+answer_of s = checked s
 
 -- ---- the slices
 
@@ -135,30 +169,7 @@ unfoldable pub slices_after : Input → Slices → Slices
 slices_after i s = if_accepted (status i s) (filled i s) s
 
 -- The contract: the answer, what it tells, and every slice, each cell of it.
-pub record Aligned (i : Input) (s : Change Slices) (r : AlignAnswer) : Type 0 where
+pub record Aligned (i : Input) (s : Change Slices) (r : Result ⊤ Refusal) : Type 0 where
   pub answer : r ≡ answer_of (status i s.entry)
   pub told : told_by r ≡ told_for (status i s.entry) (gives tt)
   pub slices : s.exit ≡ slices_after i s.entry
-
--- ---- the work inside a call
-
--- an input that passed the checks, with slices that are as long as they must be
-pub record Checked (i : Input) (s : Slices) : Type 0 where
-  pub peptide : length i.peptide ≡ length i.file
-  pub label : length i.label ≡ length i.file
-  pub q : length i.q ≡ length i.file
-  pub rt : length i.rt ≡ length i.file
-  pub files_max : i.files ≤ max_files
-  pub peptides_max : i.peptides ≤ max_peptides
-  pub cells_max : i.peptides * i.files ≤ max_cells
-  pub file_numbers : all_below i.files i.file ≡ true
-  pub peptide_numbers : all_below i.peptides i.peptide ≡ true
-  pub workspace : length s.workspace ≡ i.peptides * i.files
-  pub records : EachOf i.files s.records
-  pub aligned : length s.aligned ≡ length i.file
-
--- what that work leaves in such slices
-pub record Written (i : Input) (s : Slices) : Type 0 where
-  pub workspace : s.workspace ≡ replicate (i.peptides * i.files) zero64
-  pub records : records_of s.records ≡ records_for i
-  pub aligned : s.aligned ≡ map (aligned (records_for i)) (rows i)

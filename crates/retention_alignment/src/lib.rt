@@ -2,46 +2,40 @@
 // shares of the file's longest time, to the peptides' mean shares over all files.
 #![tactic(auto)]
 
-ghost use Rattle.std.specs.Prelude.{◌≡◌, true, List, map, ℕ, length};
+ghost use Rattle.std.specs.Prelude.{◌≡◌, true, map, length};
 ghost use Rattle.status.specs.Checks.{all_below};
-ghost use Rattle.status.specs.Status.{accepted};
-ghost use Rattle.rt_matrix.specs.Columns.{file_columns_at, file_columns_of};
-ghost use Rattle.retention_alignment.specs.Observation.{observations};
+ghost use Rattle.status.specs.Status.{accepted, checked};
+ghost use Rattle.rt_matrix.specs.Columns.{EachFrom, held_columns, changed_columns, SameSlices};
 ghost use Rattle.retention_alignment.specs.Alignments.{on_line, aligned_in};
 ghost use Rattle.retention_alignment.specs.Call.{
-  input_at,
-  input_of,
+  held_input,
+  held_slices,
   slices_at,
   slices_of,
-  long_enough,
-  status_by,
+  rows,
   status,
-  Checked,
-  Written,
+  SameRows,
   Filled,
   Aligned,
 };
 
 mod times;
 
-use matrix::FileIx;
-pub use rt_matrix::Alignment;
-use rt_matrix::FileRoom;
-use status::MAX_FILES;
+pub use rt_matrix::{Alignment, FileColumns};
+use status::{MAX_FILES, Refusal};
 
-// What a call answers; the refused case carries the status.
+// The rows that are aligned, column by column, as hosts lend them: the number of each row's file and of its peptide, its
+// label and its q value, which say whether it trains, and its time; and how many files and peptides there are. No
+// invariant says that the columns are of one length: `global_alignment` refuses those that are not.
 #[derive(Clone, Copy)]
-pub enum AlignAnswer {
-    Accepted,
-    Refused(u8),
-}
-
-// The lengths of the slices that a call writes.
-#[derive(Clone, Copy)]
-pub struct Room {
-    pub workspace: usize,
-    pub records: FileRoom,
-    pub aligned: usize,
+pub struct Observations<'a> {
+    pub file: &'a [u32],
+    pub peptide: &'a [u32],
+    pub label: &'a [i32],
+    pub q: &'a [f32],
+    pub rt: &'a [f32],
+    pub files: usize,
+    pub peptides: usize,
 }
 
 // A time by the three numbers of a file's record, each operation rounded in f32.
@@ -52,155 +46,41 @@ pub fn aligned_time(max_rt: f32, slope: f32, intercept: f32, rt: f32) -> f32
 }
 
 // Writes each row's aligned time, by its file's longest time, slope and intercept. The peptides' numbers are not read.
-fn align_rows(
-    file: &[u32],
-    rt: &[f32],
-    max_rt: &[f32],
-    slope: &[f32],
-    intercept: &[f32],
-    aligned: &mut [f32],
-)
-    requires { (length rt.now ≡ length file.now)
-        × (length aligned.old ≡ length file.now)
-        × (all_below (length max_rt.now) file.now ≡ true)
-        × (length slope.now ≡ length max_rt.now)
-        × (length intercept.now ≡ length max_rt.now) }
-    ensures { (ps : List ℕ) → length ps ≡ length file.now
-        → aligned.new
-        ≡ map (aligned_in max_rt.now slope.now intercept.now)
-        (observations file.now ps rt.now) }
+fn align_rows(observed: Observations<'_>, columns: &FileColumns<'_>, aligned: &mut [f32])
+    requires same_rows { SameRows (held_input observed) }
+    requires lengths { EachFrom observed.files (held_columns columns.now)
+        × (all_below observed.files observed.file.now ≡ true)
+        × (length aligned.old ≡ length observed.file.now) }
+    ensures { aligned.new
+        ≡ map
+        (aligned_in
+        columns.entry.now.max_rt.now
+        columns.entry.now.slope.now
+        columns.entry.now.intercept.now)
+        (rows (held_input observed.entry)) }
 {
-    let mut i = 0usize;
-    while i < file.len() {
-        let f = FileIx(file[i]);
-        let k = f.0 as usize;
-        aligned[i] = aligned_time(max_rt[k], slope[k], intercept[k], rt[i]);
-        i += 1;
+    for i in 0..observed.file.len() {
+        let f = observed.file[i] as usize;
+        aligned[i] = aligned_time(
+            columns.max_rt[f],
+            columns.slope[f],
+            columns.intercept[f],
+            observed.rt[i],
+        );
     }
 }
 
-// Whether the workspace and the outputs are long enough.
-fn long_enough(files: usize, peptides: usize, rows: usize, room: Room) -> bool
-    ensures { result ≡ long_enough files peptides rows room }
-{
-    let workspace = status::cells_fit(peptides, files, room.workspace);
-    let records = room.records;
-    let by_file = rt_matrix::columns_long(files, records);
-    workspace & by_file & (rows <= room.aligned)
-}
-
-// The status of a call: 1, 2, 3, 4, 5 or 0. Each check goes over the whole input, and the first that fails is answered.
+// The first check that fails. Each goes over the whole input.
 fn check(
-    file: &[u32],
-    peptide: &[u32],
-    label: &[i32],
-    q: &[f32],
-    rt: &[f32],
-    files: usize,
-    peptides: usize,
-    room: Room,
-) -> u8
-    ensures { result ≡ status_by (input_of file peptide label q rt files peptides) room }
+    observed: Observations<'_>,
+    workspace: &[f64],
+    columns: &FileColumns<'_>,
+    aligned: &[f32],
+) -> Result<(), Refusal>
+    ensures { result
+        ≡ checked (status (held_input observed.entry) (held_slices workspace.entry columns.entry aligned.entry)) }
 {
-    let rows = file.len();
-    let lengths = status::same_lengths(rows, peptide.len(), label.len(), q.len(), rt.len());
-    let limits = status::limits(files, rows, peptides);
-    let long = long_enough(files, peptides, rows, room);
-    let files_right = status::all_below(file, files);
-    let peptides_right = status::all_below(peptide, peptides);
-    status::first_failing(
-        lengths,
-        limits,
-        long,
-        status::ACCEPTED,
-        files_right,
-        peptides_right,
-    )
-}
-
-// The work of an accepted call, on slices that are as long as it needs.
-fn align(
-    file: &[u32],
-    peptide: &[u32],
-    label: &[i32],
-    q: &[f32],
-    rt: &[f32],
-    files: usize,
-    peptides: usize,
-    cells: &mut [f64],
-    max_rt: &mut [f32],
-    slope: &mut [f32],
-    intercept: &mut [f32],
-    used: &mut [u32],
-    max_rt_exact: &mut [bool],
-    slope_exact: &mut [bool],
-    intercept_exact: &mut [bool],
-    aligned: &mut [f32],
-)
-    requires { Checked
-        (input_at file peptide label q rt files peptides)
-        (slices_at cells
-        (file_columns_at max_rt slope intercept used max_rt_exact slope_exact intercept_exact)
-        aligned) }
-    ensures { Written
-        (input_of file peptide label q rt files peptides)
-        (slices_of cells
-        (file_columns_of max_rt slope intercept used max_rt_exact slope_exact intercept_exact)
-        aligned).exit }
-{
-    let mut max = [0u32; MAX_FILES];
-    times::max_rt_by_file(file, rt, &mut max[..files]);
-    times::mean_rt_by_file(file, peptide, label, q, rt, files as u32, peptides, cells);
-    rt_matrix::fit_lines(
-        cells,
-        &max[..files],
-        peptides,
-        max_rt,
-        slope,
-        intercept,
-        used,
-        max_rt_exact,
-        slope_exact,
-        intercept_exact,
-    );
-    align_rows(file, rt, max_rt, slope, intercept, aligned);
-    matrix::zeros(cells);
-}
-
-// An accepted call, on slices that may be longer than it needs. For a caller that has made the checks itself.
-pub fn align_accepted(
-    file: &[u32],
-    peptide: &[u32],
-    label: &[i32],
-    q: &[f32],
-    rt: &[f32],
-    files: usize,
-    peptides: usize,
-    workspace: &mut [f64],
-    max_rt: &mut [f32],
-    slope: &mut [f32],
-    intercept: &mut [f32],
-    used: &mut [u32],
-    max_rt_exact: &mut [bool],
-    slope_exact: &mut [bool],
-    intercept_exact: &mut [bool],
-    aligned: &mut [f32],
-)
-    requires { status
-        (input_at file peptide label q rt files peptides)
-        (slices_at workspace
-        (file_columns_at max_rt slope intercept used max_rt_exact slope_exact intercept_exact)
-        aligned)
-        ≡ accepted }
-    ensures { Filled
-        (input_of file peptide label q rt files peptides)
-        (slices_of workspace
-        (file_columns_of max_rt slope intercept used max_rt_exact slope_exact intercept_exact)
-        aligned) }
-{
-    let cells = matrix::cell_count(peptides, files);
-    let rows = file.len();
-    align(
+    let Observations {
         file,
         peptide,
         label,
@@ -208,81 +88,62 @@ pub fn align_accepted(
         rt,
         files,
         peptides,
-        &mut workspace[..cells],
-        &mut max_rt[..files],
-        &mut slope[..files],
-        &mut intercept[..files],
-        &mut used[..files],
-        &mut max_rt_exact[..files],
-        &mut slope_exact[..files],
-        &mut intercept_exact[..files],
-        &mut aligned[..rows],
-    );
+    } = observed;
+    let rows = file.len();
+    status::first_failing(
+        status::same_lengths(rows, peptide.len(), label.len(), q.len(), rt.len()),
+        status::limits(files, rows, peptides),
+        status::cells_fit(peptides, files, workspace.len())
+            & columns.hold(files)
+            & (rows <= aligned.len()),
+        Ok(()),
+        status::all_below(file, files),
+        status::all_below(peptide, peptides),
+    )
+}
+
+// An accepted call, on slices that may be longer than it needs. For a caller that has made the checks itself.
+pub fn align_accepted(
+    observed: Observations<'_>,
+    workspace: &mut [f64],
+    columns: &mut FileColumns<'_>,
+    aligned: &mut [f32],
+)
+    requires { status
+        (held_input observed)
+        (slices_at workspace (held_columns columns.old) aligned)
+        ≡ accepted }
+    ensures same { SameSlices columns }
+    ensures filled { Filled
+        (held_input observed.entry)
+        (slices_of workspace (changed_columns columns) aligned) }
+{
+    let files = observed.files;
+    let mut max = [0u32; MAX_FILES];
+    times::max_rt_by_file(observed, &mut max[..files]);
+    let cells = &mut workspace[..matrix::cell_count(observed.peptides, files)];
+    times::mean_rt_by_file(observed, cells);
+    rt_matrix::fit_lines(cells, &max[..files], observed.peptides, columns);
+    cells.fill(0.0);
+    align_rows(observed, columns, &mut aligned[..observed.file.len()]);
 }
 
 // The alignment. Of the workspace it needs peptides × files cells, of each field of the files' records one for each
 // file, and of aligned one for each row; what is longer keeps its rest, and a refused call leaves every slice as it
 // was.
 pub fn global_alignment(
-    file: &[u32],
-    peptide: &[u32],
-    label: &[i32],
-    q: &[f32],
-    rt: &[f32],
-    files: usize,
-    peptides: usize,
+    observed: Observations<'_>,
     workspace: &mut [f64],
-    max_rt: &mut [f32],
-    slope: &mut [f32],
-    intercept: &mut [f32],
-    used: &mut [u32],
-    max_rt_exact: &mut [bool],
-    slope_exact: &mut [bool],
-    intercept_exact: &mut [bool],
+    columns: &mut FileColumns<'_>,
     aligned: &mut [f32],
-) -> AlignAnswer
-    ensures { Aligned
-        (input_of file peptide label q rt files peptides)
-        (slices_of workspace
-        (file_columns_of max_rt slope intercept used max_rt_exact slope_exact intercept_exact)
-        aligned)
+) -> Result<(), Refusal>
+    ensures same { SameSlices columns }
+    ensures aligned { Aligned
+        (held_input observed.entry)
+        (slices_of workspace (changed_columns columns) aligned)
         result }
 {
-    let records = FileRoom {
-        max_rt: max_rt.len(),
-        slope: slope.len(),
-        intercept: intercept.len(),
-        used: used.len(),
-        max_rt_exact: max_rt_exact.len(),
-        slope_exact: slope_exact.len(),
-        intercept_exact: intercept_exact.len(),
-    };
-    let room = Room {
-        workspace: workspace.len(),
-        records,
-        aligned: aligned.len(),
-    };
-    let status = check(file, peptide, label, q, rt, files, peptides, room);
-    if status != status::ACCEPTED {
-        return AlignAnswer::Refused(status);
-    }
-    align_accepted(
-        file,
-        peptide,
-        label,
-        q,
-        rt,
-        files,
-        peptides,
-        workspace,
-        max_rt,
-        slope,
-        intercept,
-        used,
-        max_rt_exact,
-        slope_exact,
-        intercept_exact,
-        aligned,
-    );
-    AlignAnswer::Accepted
+    check(observed, workspace, columns, aligned)?;
+    align_accepted(observed, workspace, columns, aligned);
+    Ok(())
 }

@@ -1,50 +1,25 @@
 // The longest time of each file, and the smallest time of each peptide in each file.
-ghost use Rattle.std.specs.Prelude.{◌≡◌, List, map, true, ℕ, ◌*◌, ◌<◌, ◌^◌, max, length, replicate};
+ghost use Rattle.std.specs.Prelude.{◌≡◌, List, map, true, ℕ, ◌*◌, ◌<◌, ◌^◌, length, replicate};
 ghost use Rattle.status.specs.Checks.{all_below};
 ghost use Rattle.matrix.specs.Rows.{rows_of};
 ghost use Rattle.rt_matrix.specs.Cells.{absent, decode};
-ghost use Rattle.retention_alignment.specs.Observation.{observations, max_rts, smaller, min_rts};
-ghost use Rattle.retention_alignment.specs.Call.{input_of, training_rows};
+ghost use Rattle.retention_alignment.specs.Observation.{max_rts, smaller, min_rts};
+ghost use Rattle.retention_alignment.specs.Call.{held_input, rows, training_rows, SameRows};
 
+use crate::Observations;
 use matrix::{FileIx, PeptideIx};
 use rt_matrix::ABSENT;
 
-// The larger of the two.
-fn larger(a: u32, b: u32) -> u32
-    ensures { result ≡ max a b }
-{
-    if a < b {
-        return b;
-    }
-    a
-}
-
 // The longest time of each file, over all rows; max is handed in as zeros. The peptides' numbers are not read.
-pub(crate) fn max_rt_by_file(file: &[u32], rt: &[f32], max: &mut [u32])
-    requires { (length rt.now ≡ length file.now)
-        × (all_below (length max.old) file.now ≡ true)
+pub(crate) fn max_rt_by_file(observed: Observations<'_>, max: &mut [u32])
+    requires same_rows { SameRows (held_input observed) }
+    requires fresh { (all_below (length max.old) observed.file.now ≡ true)
         × (max.old ≡ replicate (length max.old) 0) }
-    ensures { (ps : List ℕ) → length ps ≡ length file.now
-        → max.new
-        ≡ max_rts (length max.old) (observations file.now ps rt.now) }
+    ensures { max.new ≡ max_rts (length max.old) (rows (held_input observed.entry)) }
 {
-    let mut i = 0usize;
-    while i < file.len() {
-        let f = FileIx(file[i]);
-        let k = f.0 as usize;
-        max[k] = larger(max[k], float::ceil_to_u32(rt[i]));
-        i += 1;
-    }
-}
-
-// Sets every cell to ABSENT.
-fn clear(cells: &mut [f64])
-    ensures { cells.new ≡ replicate (length cells.old) absent }
-{
-    let mut k = 0usize;
-    while k < cells.len() {
-        cells[k] = ABSENT;
-        k += 1;
+    for i in 0..observed.file.len() {
+        let f = observed.file[i] as usize;
+        max[f] = max[f].max(float::ceil_to_u32(observed.rt[i]));
     }
 }
 
@@ -60,38 +35,24 @@ fn earliest(cell: f64, t: f32) -> f64
 
 // The smallest time of each peptide in each file, over the training rows: a row of cells for each peptide, a cell for
 // each file.
-pub(crate) fn mean_rt_by_file(
-    file: &[u32],
-    peptide: &[u32],
-    label: &[i32],
-    q: &[f32],
-    rt: &[f32],
-    files: u32,
-    peptides: usize,
-    cells: &mut [f64],
-)
-    requires peptide_len { (length peptide.now ≡ length file.now)
-        × (length label.now ≡ length file.now)
-        × (length q.now ≡ length file.now)
-        × (length rt.now ≡ length file.now) }
-    requires file_value { (all_below files file.now ≡ true)
-        × (all_below peptides peptide.now ≡ true)
-        × (length cells.old ≡ peptides * files)
-        × (peptides * files < 2 ^ 32) }
-    ensures { map (map decode) (rows_of files peptides cells.new)
-        ≡ min_rts files peptides (training_rows (input_of file peptide label q rt files peptides)) }
+pub(crate) fn mean_rt_by_file(observed: Observations<'_>, cells: &mut [f64])
+    requires same_rows { SameRows (held_input observed) }
+    requires in_range { (all_below observed.files observed.file.now ≡ true)
+        × (all_below observed.peptides observed.peptide.now ≡ true)
+        × (length cells.old ≡ observed.peptides * observed.files)
+        × (observed.files < 2 ^ 32)
+        × (observed.peptides * observed.files < 2 ^ 32) }
+    ensures { map (map decode) (rows_of observed.entry.files observed.entry.peptides cells.new)
+        ≡ min_rts observed.entry.files observed.entry.peptides (training_rows (held_input observed.entry)) }
 {
-    clear(cells);
-    let mut i = 0usize;
-    while i < file.len() {
-        let p = PeptideIx(peptide[i]);
-        let f = FileIx(file[i]);
-        let t = rt[i];
-        let trains = feature::trains(label[i], q[i]);
-        i += 1;
-        if trains {
+    cells.fill(ABSENT);
+    let files = observed.files as u32;
+    for i in 0..observed.file.len() {
+        if feature::trains(observed.label[i], observed.q[i]) {
+            let p = PeptideIx(observed.peptide[i]);
+            let f = FileIx(observed.file[i]);
             let at = matrix::place(p, f, files);
-            cells[at] = earliest(cells[at], t);
+            cells[at] = earliest(cells[at], observed.rt[i]);
         }
     }
 }

@@ -21,11 +21,10 @@ use Rattle.rt_matrix.specs.Columns.{columns_of, written_over}
 use Rattle.rt_matrix.specs.declared.Alignment.{Alignment}
 use Rattle.retention_alignment.specs.Observation.{Obs, observations, max_rts}
 use Rattle.retention_alignment.specs.Alignments.{alignments, aligned}
-use Rattle.retention_alignment.specs.Call.{Input, Slices, room_of, long_enough, checks, status_by, status, answer_of}
+use Rattle.std.specs.Prelude.{⊤, Result, Ok}
+use Rattle.status.specs.declared.Refusal.{Refusal}
+use Rattle.retention_alignment.specs.Call.{Input, Slices, Room, room_of, long_enough, checks, status_by, status, answer_of}
 use Rattle.retention_alignment.specs.Call.{told_by, records_for, filled, slices_after}
-use Rattle.retention_alignment.specs.declared.Room.{Room}
-use Rattle.retention_alignment.specs.declared.AlignAnswer.{AlignAnswer}
-use Rattle.retention_alignment.specs.declared.AlignAnswer.TheVariants.{Accepted}
 use Rattle.retention_alignment.proofs.Calls.{passed}
 use Rattle.run.specs.Fitted.{obs_of, longest, file_records, fitted}
 use Rattle.run.specs.Call.{peptides as peptides_of}
@@ -89,12 +88,12 @@ told_status : (n : ℕ) → (told_for n (gives (tt {0}))).status ≡ n
 told_status zero = refl
 told_status (suc n) = rw (eqb-suc-zero n)
 
-module _ (files peptides : ℕ) (rs : List Row) (c : AlignCall files peptides rs) (h : c.answer ≡ Accepted) where
+module _ (files peptides : ℕ) (rs : List Row) (c : AlignCall files peptides rs) (h : c.answer ≡ Ok tt) where
   unrefused : status (input files peptides rs) c.before ≡ accepted
   unrefused =
       sym (told_status (status (input files peptides rs) c.before))
       ∙ sym (ap (λ (t : Told Unit). t.status) c.contract.told)
-      ∙ ap (λ (r : AlignAnswer). (told_by r).status) h
+      ∙ ap (λ (r : Result ⊤ Refusal). (told_by r).status) h
 
   after_is : c.after ≡ filled (input files peptides rs) c.before
   unfolding slices_after

@@ -4,7 +4,7 @@
 use mathlib.Core.Path.{◌≡◌, refl, sym, ap, ◌∙◌, subst, subst₂}
 use mathlib.Core.List.{List, ◌++◌, map, map-map, zip, flatten, append_assoc, append-nil}
 use mathlib.Core.List.Permᴰ
-use mathlib.Core.Option.{some}
+use Rattle.std.specs.Prelude.{Some}
 use Prim.Native.Nat.{ℕ, ◌≤◌}
 use lib.Ieee.{nan}
 use lib.ListN.{length, length-map}
@@ -153,12 +153,12 @@ module _ (d : Input) (others : List TextRow) (r : Reordered d.rows others) where
 
 -- ---- the theorem
 
-module _ (t : List ℕ) (d : Input) (others : List TextRow) (read : parse t ≡ some d)
+module _ (t : List ℕ) (d : Input) (others : List TextRow) (read : parse t ≡ Some d)
     (r : Reordered d.rows others) where
   abbrev u : List ℕ
   u = render (with_rows d others)
 
-  read_too : parse u ≡ some (with_rows d others)
+  read_too : parse u ≡ Some (with_rows d others)
   read_too =
       let w = (grammar t d).0 read in
       let l : length u ≤ max_bytes = rw (as_long d others r) (rw w.0 at w.2) in
@@ -175,7 +175,7 @@ module _ (t : List ℕ) (d : Input) (others : List TextRow) (read : parse t ≡ 
       ap (status_with max_files) read_too ∙ same_status d others r ∙ sym (ap (status_with max_files) read)
 
 -- the answer to a text that is read, and accepted
-answer_is : (t : List ℕ) (d : Input) → parse t ≡ some d → text_status t ≡ accepted
+answer_is : (t : List ℕ) (d : Input) → parse t ≡ Some d → text_status t ≡ accepted
     → align_text t ≡ file_lines d ++ flatten (row_lines d)
 answer_is t d read h =
     text_by_status t
@@ -183,7 +183,7 @@ answer_is t d read h =
     ∙ ap alignment_of read
     ∙ in_parts d
 
-pub text_order : (t : List ℕ) (d : Input) (others : List TextRow) → parse t ≡ some d → Reordered d.rows others
+pub text_order : (t : List ℕ) (d : Input) (others : List TextRow) → parse t ≡ Some d → Reordered d.rows others
     → TextOrder t d others
 text_order t d others read r =
     let e = with_rows d others in

@@ -1,14 +1,13 @@
 -- Document 02's No. 9: two alignments of the same rows in another order. What is supposed of them, and what is claimed.
 -- Nothing is supposed of a value: NaN, infinities and both zeros are among them. Definitions only.
-use Rattle.std.specs.Prelude.{◌≡◌, true, ℕ, Float, length}
+use Rattle.std.specs.Prelude.{◌≡◌, true, ℕ, Float, length, ⊤, Result, Ok}
+use Rattle.status.specs.declared.Refusal.{Refusal}
 use mathlib.Core.List.{List, map, zip, Permᴰ}
 use Rattle.params.specs.Slice.{change}
 use Rattle.feature.specs.Feature.{Row}
 use Rattle.rt_matrix.specs.Columns.{FileColumns, records_of, first_of}
 use Rattle.rt_matrix.specs.declared.Alignment.{Alignment}
 use Rattle.retention_alignment.specs.Call.{Input, Slices, Aligned, room_of, long_enough}
-use Rattle.retention_alignment.specs.declared.AlignAnswer.{AlignAnswer}
-use Rattle.retention_alignment.specs.declared.AlignAnswer.TheVariants.{Accepted}
 use Rattle.run.specs.Call.{Input as RunInput, rows, peptides}
 use Rattle.edit_rule.specs.Ends.{End, shown}
 
@@ -68,7 +67,7 @@ pub record AlignCall (files peptides : ℕ) (rows : List Row) : Type 0 where
   -- the slices as the call begins and as it returns, and the answer
   pub before : Slices
   pub after : Slices
-  pub answer : AlignAnswer
+  pub answer : Result ⊤ Refusal
   -- what the contract of `global_alignment` promises of them
   pub contract : Aligned (passed_for files peptides rows) (change before after) answer
 
@@ -79,10 +78,10 @@ batch_of files peptides rows c = record { rows = rows; records = c.after.records
 pub record RowOrder (files peptides : ℕ) (rows others : List Row) (a : AlignCall files peptides rows)
     (b : AlignCall files peptides others) : Type 0 where
   -- a reordering of an accepted list is accepted, with slices that are long enough,
-  pub accepted_too : a.answer ≡ Accepted
-      → long_enough files peptides (length others) (room_of b.before) ≡ true → b.answer ≡ Accepted
+  pub accepted_too : a.answer ≡ Ok tt
+      → long_enough files peptides (length others) (room_of b.before) ≡ true → b.answer ≡ Ok tt
   -- and where both are, records and times are the same;
-  pub same : a.answer ≡ Accepted → b.answer ≡ Accepted
+  pub same : a.answer ≡ Ok tt → b.answer ≡ Ok tt
       → SameAlignment files (batch_of files peptides rows a) (batch_of files peptides others b)
   -- with slices as long a list that is refused is refused in every order, with the same number
   pub answer : room_of b.before ≡ room_of a.before → b.answer ≡ a.answer

@@ -1,8 +1,7 @@
 -- The align program's texts: the blocks of lines of a text's rows in another order. The lines of the files are the
 -- same, and the line of a row's aligned time stands where the row's block stands. Definitions only.
-use Rattle.std.specs.Prelude.{◌≡◌, ℕ, length}
+use Rattle.std.specs.Prelude.{◌≡◌, ℕ, length, Some}
 use mathlib.Core.List.{List, ◌++◌, map, zip, flatten}
-use Rattle.std.proofs.Math.Option.{some}
 use Rattle.status.specs.Status.{accepted}
 use Rattle.retention_alignment.specs.Alignments.{aligned}
 use Rattle.retention_alignment.specs.Call.{records_for, rows}
@@ -43,7 +42,7 @@ pub record SameLines (d e : Input) (answer other : List ℕ) : Type 0 where
 -- of a text t that is read as the input d, and the text with the blocks of d's rows in another order
 pub record TextOrder (t : List ℕ) (d : Input) (others : List TextRow) : Type 0 where
   -- that text is read, as the rows in that order,
-  pub read : parse (render (with_rows d others)) ≡ some (with_rows d others)
+  pub read : parse (render (with_rows d others)) ≡ Some (with_rows d others)
   -- has the same number,
   pub status : text_status (render (with_rows d others)) ≡ text_status t
   -- and where that is 0, the same lines of the files, and each row's line where its block is;

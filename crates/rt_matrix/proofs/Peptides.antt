@@ -2,16 +2,15 @@
 use mathlib.Core.Path.{◌≡◌, refl, sym, ap, ◌∙◌}
 use mathlib.Core.Bool.{Bool, true, false, cond}
 use mathlib.Core.List.{List, [], ◌∷◌}
-use mathlib.Core.Option.{Option}
-use Prim.Native.Nat.{ℕ, zero, suc, ◌+◌, ◌-◌, ◌*◌, ◌≤◌, ◌<◌}
-use native.Mathlib.Nat.{not-suc-le-zero, suc-mul}
+use mathlib.Core.Option.{Option, none, some}
+use Prim.Native.Nat.{ℕ, zero, suc, ◌+◌, ◌≤◌, ◌<◌}
+use native.Mathlib.Nat.{not-suc-le-zero}
 use native.Mathlib.Omega.{arith}
-use lib.ListN.{length, take, drop}
-use lib.Seq.{drop-drop}
+use lib.ListN.{length, get_or, take, drop}
 use lib.Ieee.{Float, binary64}
+use Rattle.std.specs.List.{All}
 use Rattle.float.specs.Value.{is_normal}
 use Rattle.matrix.specs.Rows.{rows_of}
-use Rattle.matrix.proofs.Laws.{row_end}
 use Rattle.rt_matrix.specs.Line.{mean}
 use Rattle.matrix.specs.Lists.{zipped}
 use Rattle.rt_matrix.specs.Cells.{shares_of, row_shares, at_cell, after_row}
@@ -32,32 +31,50 @@ module _ {A : Type 0} (step : A → Float → Float → A) (states : List A) (ro
       sym
       (ap (λ (b : Bool). cond b (zipped (at_cell step (mean row)) states row) states) (ap (is_normal binary64) (sym e) ∙ h))
 
--- ---- the rows that are left, from a place on
+-- ---- the rows that are left
 
--- of n peptides so many are left, and `at` is the first cell of the first of them
-abbrev pub At : (files n at left : ℕ) → Type 0
-At files n at left = (left ≤ n) × (at ≡ (n - left) * files)
-
-module _ (ms : List ℕ) (cells : List Float) where
-  -- its row ends within the cells, and there the next one starts
-  pub next_row : (n at left : ℕ) → length cells ≡ n * length ms → 0 < left → At (length ms) n at left
-      → (at + length ms ≤ length cells) × At (length ms) n (at + length ms) (left - 1)
-  next_row n at left l h e =
-      let next : n - (left - 1) ≡ suc (n - left) = omega arith in (
-        omega (arith, row_end (length ms) n (n - left) (omega arith), e.1),
-        (omega arith, rw (next, suc-mul) (ap (λ (k : ℕ). k + length ms) e.1)),
-      )
-
-  -- the first row that is left and the others
-  pub rows_left : (at left : ℕ) → 0 < left
-      → row_shares ms left (drop at cells)
-      ≡ shares_of ms (take (length ms) (drop at cells)) ∷ row_shares ms (left - 1) (drop (at + length ms) cells)
+module _ (ms : List ℕ) where
+  -- of the cells of the peptides that are left, the first row and the others
+  pub rows_left : (left : List Float) (n k : ℕ) → n ≡ suc k
+      → row_shares ms n left
+      ≡ shares_of ms (take (length ms) left) ∷ row_shares ms k (drop (length ms) left)
   unfolding rows_of
-  rows_left at zero h = absurd (not-suc-le-zero h)
-  rows_left at (suc n) h = let less : suc n - 1 ≡ n = omega arith in rw (less, drop-drop (length ms) at cells)
+  rows_left left n k e = rw e refl
 
   -- none are left
-  pub rows_done : (at left : ℕ) → left ≤ 0 → row_shares ms left (drop at cells) ≡ []
+  pub rows_done : (left : List Float) (n : ℕ) → n ≡ 0 → row_shares ms n left ≡ []
   unfolding rows_of
-  rows_done at zero h = refl
-  rows_done at (suc n) h = absurd (not-suc-le-zero h)
+  rows_done left n e = rw e refl
+
+-- ---- room for the points of the peptides that are left
+
+module _ {A : Type 0} (step : A → Float → Float → A) (count : A → ℕ)
+    (counted : (s : A) → (x y : Float) → count (step s x y) ≤ count s + 1) (n : ℕ) where
+  -- n points more can be counted
+  abbrev pub Room : ℕ → A → Type 0
+  Room k s = count s + k < n
+
+  cell_room : (k : ℕ) (y : Float) (s : A) (c : Option Float) → Room (suc k) s → Room k (at_cell step y s c)
+  unfolding at_cell
+  cell_room k y s none h = omega arith
+  cell_room k y s (some x) h = omega (arith, counted s x y)
+
+  row_room : (k : ℕ) (y : Float) (states : List A) (row : List (Option Float)) → All (Room (suc k)) states
+      → (i : ℕ) (d : A) → i < length (zipped (at_cell step y) states row)
+      → Room k (get_or (zipped (at_cell step y) states row) i d)
+  unfolding zipped
+  row_room k y [] row h i d l = absurd (not-suc-le-zero l)
+  row_room k y (s ∷ states) [] h i d l = omega (arith, h i d l)
+  row_room k y (s ∷ states) (c ∷ row) h zero d l = cell_room k y s c (h 0 d (omega arith))
+  row_room k y (s ∷ states) (c ∷ row) h (suc i) d l =
+      row_room k y states row (λ j e m. h (suc j) e (omega arith)) i d (omega arith)
+
+  -- a row takes one point of each file's room at most
+  pub room_after : (k : ℕ) (states : List A) (row : List (Option Float)) → All (Room (suc k)) states
+      → All (Room k) (after_row step states row)
+  unfolding after_row
+  room_after k states row h = go (is_normal binary64 (mean row))
+    where
+      go : (b : Bool) → All (Room k) (cond b (zipped (at_cell step (mean row)) states row) states)
+      go true = row_room k (mean row) states row h
+      go false = λ i d l. omega (arith, h i d l)

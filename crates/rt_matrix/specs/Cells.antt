@@ -1,17 +1,21 @@
--- How cells and columns hold what `Line` speaks of: for the contracts of the functions inside. Definitions only.
-use Rattle.std.specs.Prelude.{ℕ, ◌+◌, ◌*◌, ◌^◌, ◌<◌, ◌≤◌, ◌≡◌, cond, length, replicate, Float}
+-- How cells and columns hold what `Line` speaks of: for the contracts of the functions inside. Definitions, and
+-- what two of them count.
+use Rattle.std.specs.Prelude.{ℕ, ◌+◌, ◌*◌, ◌^◌, ◌<◌, ◌≤◌, ◌≡◌, cond, length, Float}
+use native.Mathlib.Nat.{le_refl}
+use lib.Dec.{lit≤}
 use mathlib.Core.List.{List, map, zip, zip_with}
 use Rattle.std.proofs.Math.Option.{Option, none, some}
 use Rattle.std.specs.Float.{binary64}
 use Rattle.std.specs.Float.Ieee.{add, mul, div, eq, of_bits}
-use Rattle.params.specs.Slice.{Held, MutHeld, Change, change, Slice, MutSlice}
+use Rattle.params.specs.Slice.{Held, Change, Slice}
 use Rattle.float.specs.Value.{is_normal}
 use Rattle.matrix.specs.Rows.{rows_of}
-use Rattle.float.specs.Number.{number, zero64}
+use Rattle.float.specs.Number.{number}
 use Rattle.status.specs.Limits.{max_files}
 use Rattle.matrix.specs.Lists.{zipped}
-use Rattle.rt_matrix.specs.Line.{share, mean, squared, line_of, lines, sx2_start}
-use Rattle.rt_matrix.specs.Columns.{FileColumns, EachOf, records_of}
+use Rattle.rt_matrix.specs.Line.{share, mean, squared, line_of, lines}
+use Rattle.rt_matrix.specs.Columns.{FileColumns, EachFrom, columns_of, written_over}
+use Rattle.rt_matrix.specs.declared.squares.Squares.{Squares}
 use Rattle.rt_matrix.specs.declared.sums.Sums.{Sums}
 use Rattle.rt_matrix.specs.declared.Alignment.{Alignment}
 
@@ -54,94 +58,46 @@ add_point s x y =
       sum_y = add binary64 s.sum_y y;
     }
 
--- four columns of sums as one list
-abbrev pub sums_of : List ℕ → List Float → List Float → List Float → List Sums
-sums_of ns ds xs ys =
-    zip_with
-    (λ (p : ℕ × Float) (q : Float × Float). record { len = p.0; dot = p.1; sum_x = q.0; sum_y = q.1 })
-    (zip ns ds)
-    (zip xs ys)
+-- one point more in a file's squares, which go by no peptide's mean
+unfoldable pub add_square : Squares → Float → Float → Squares
+add_square s x y = record { x_mean = s.x_mean; sx2 = add binary64 s.sx2 (squared s.x_mean x) }
 
--- the four columns have n cells each
-pub record Sized (n : ℕ) (ns : List ℕ) (ds xs ys : List Float) : Type 0 where
-  pub len : length ns ≡ n
-  pub dot : length ds ≡ n
-  pub sum_x : length xs ≡ n
-  pub sum_y : length ys ≡ n
+-- neither counts more than the point
+pub add_point_counts : (s : Sums) → (x y : Float) → (add_point s x y).len ≤ s.len + 1
+unfolding add_point
+add_point_counts s x y = le_refl (s.len + 1)
 
--- a mean of times, and the squares of their distances from it
-pub record Spread : Type 0 where
-  pub x_mean : Float
-  pub sx2 : Float
+pub add_square_counts : (s : Squares) → (x y : Float) → 0 ≤ 0 + 1
+add_square_counts s x y = lit≤ tt
 
-abbrev pub spread : Float → Float → Spread
-spread m s = record { x_mean = m; sx2 = s }
+-- the mean of a file's times from its sums, in front of squares
+abbrev pub with_mean : Squares → Sums → Squares
+with_mean q s = record { x_mean = div binary64 s.sum_x (number s.len); sx2 = q.sx2 }
 
--- one point more
-unfoldable pub add_square : Spread → Float → Float → Spread
-add_square s x y = spread s.x_mean (add binary64 s.sx2 (squared s.x_mean x))
-
--- a column of means and one of squares as one list
-abbrev pub spreads_of : List Float → List Float → List Spread
-spreads_of ms ss = zip_with spread ms ss
-
--- the mean of each file's times, from how many there are and their sum
-abbrev pub x_means : List ℕ → List Float → List Float
-x_means ns xs = zip_with (λ n x. div binary64 x (number n)) ns xs
-
--- the columns of n files before the first peptide
-pub record Fresh (n : ℕ) (ns : List ℕ) (ds xs ys ms ss : List Float) : Type 0 where
-  pub len : ns ≡ replicate n 0
-  pub dot : ds ≡ replicate n zero64
-  pub sum_x : xs ≡ replicate n zero64
-  pub sum_y : ys ≡ replicate n zero64
-  pub means : length ms ≡ n
-  pub squares : ss ≡ replicate n sx2_start
+-- of each file
+abbrev pub with_means : List Squares → List Sums → List Squares
+with_means qs ss = zipped with_mean qs ss
 
 -- the record of each file, from its longest time, its sums and its squares
-abbrev pub records_from : List ℕ → List Sums → List Float → List Alignment
+abbrev pub records_from : List ℕ → List Sums → List Squares → List Alignment
 records_from ms ss qs =
     zip_with
-    (λ (p : ℕ × Sums) q. line_of p.0 p.1.len p.1.dot p.1.sum_x p.1.sum_y q)
+    (λ (p : ℕ × Sums) (q : Squares). line_of p.0 p.1.len p.1.dot p.1.sum_x p.1.sum_y q.sx2)
     (zip ms ss)
     qs
 
 -- ---- as a function's parameters hold them
 
--- the four columns of sums, and that they have n cells each, in a `requires`
-abbrev pub sums_at : (len : MutHeld ℕ) (dot sum_x sum_y : MutHeld Float) → List Sums
-sums_at len dot sum_x sum_y = sums_of len.now dot.now sum_x.now sum_y.now
-
-abbrev pub SizedAt : (n : ℕ) → (len : MutHeld ℕ) (dot sum_x sum_y : MutHeld Float) → Type 0
-SizedAt n len dot sum_x sum_y = Sized n len.now dot.now sum_x.now sum_y.now
-
--- in an `ensures`: the columns of sums, a file's mean with its squares, and a peptide's shares or those of all peptides
-abbrev pub sums_in : (len : MutSlice ℕ) (dot sum_x sum_y : MutSlice Float) → Change (List Sums)
-sums_in len dot sum_x sum_y =
-    change
-    (sums_at len.entry dot.entry sum_x.entry sum_y.entry)
-    (sums_at len.exit dot.exit sum_x.exit sum_y.exit)
-
-abbrev pub spreads_in : (x_mean : Slice Float) (sx2 : MutSlice Float) → Change (List Spread)
-spreads_in x_mean sx2 =
-    change (spreads_of x_mean.entry.now sx2.entry.now) (spreads_of x_mean.entry.now sx2.exit.now)
-
-abbrev pub shares_in : (max : Slice ℕ) (row : Slice Float) → List (Option Float)
-shares_in max row = shares_of max.entry.now row.entry.now
-
-abbrev pub row_shares_in : (max : Slice ℕ) (peptides : ℕ) (cells : Slice Float) → List (List (Option Float))
-row_shares_in max peptides cells = row_shares max.entry.now peptides cells.entry.now
-
 -- what the writers of the records ask, in a `requires`: a cell for each peptide in each file, within the limits, and in
--- each column of the records a cell for each file
+-- each column of the records a cell for each file at least
 abbrev pub ShapedAt : (cells : Held Float) (max : Held ℕ) (peptides : ℕ) → FileColumns → Type 0
 ShapedAt cells max peptides columns =
     (length cells.now ≡ peptides * length max.now)
     × (peptides < 2 ^ 32)
     × (length max.now ≤ max_files)
-    × EachOf (length max.now) columns
+    × EachFrom (length max.now) columns
 
--- what they promise, in an `ensures`: the columns are left with the records
+-- what they promise, in an `ensures`: the columns are left with the records, and what is longer keeps its rest
 abbrev pub LinesIn : (cells : Slice Float) (max : Slice ℕ) (peptides : ℕ) → Change FileColumns → Type 0
 LinesIn cells max peptides columns =
-    records_of columns.exit ≡ lines_from max.entry.now peptides cells.entry.now
+    columns.exit ≡ written_over (columns_of (lines_from max.entry.now peptides cells.entry.now)) columns.entry

@@ -1,10 +1,11 @@
 -- The files' records as columns, a slice for each field: a field that the record gains is added here. Definitions only.
-use Rattle.std.specs.Prelude.{ℕ, ◌≤◌, ◌≡◌, Bool, ◌&&◌, leb, length, take, drop, Float}
+use Rattle.std.specs.Prelude.{ℕ, ◌≤◌, ◌≡◌, Bool, ◌&&◌, leb, length, take, drop, set, Float}
+use Rattle.std.specs.Borrow.{MutBor}
 use mathlib.Core.List.{List, ◌++◌, map, zip, zip_with}
 use Rattle.params.specs.Slice.{MutHeld, Change, change, MutSlice}
 use Rattle.matrix.specs.Lists.{overwritten}
 use Rattle.rt_matrix.specs.declared.Alignment.{Alignment}
-use Rattle.rt_matrix.specs.declared.FileRoom.{FileRoom}
+use Rattle.rt_matrix.specs.declared.FileColumns.{FileColumns as FileSlices}
 
 pub record FileColumns : Type 0 where
   pub max_rt : List Float
@@ -15,7 +16,50 @@ pub record FileColumns : Type 0 where
   pub slope_exact : List Bool
   pub intercept_exact : List Bool
 
--- ---- as a function's parameters hold them
+-- the lengths of the columns
+pub record FileRoom : Type 0 where
+  pub max_rt : ℕ
+  pub slope : ℕ
+  pub intercept : ℕ
+  pub used : ℕ
+  pub max_rt_exact : ℕ
+  pub slope_exact : ℕ
+  pub intercept_exact : ℕ
+
+-- ---- as the parameter of a function that takes the slices together
+
+-- in a `requires`
+abbrev pub held_columns : FileSlices → FileColumns
+held_columns c =
+    record {
+      max_rt = c.max_rt.now;
+      slope = c.slope.now;
+      intercept = c.intercept.now;
+      used = c.used.now;
+      max_rt_exact = c.max_rt_exact.now;
+      slope_exact = c.slope_exact.now;
+      intercept_exact = c.intercept_exact.now;
+    }
+
+-- in an `ensures`
+abbrev pub changed_columns : Change (MutBor FileSlices) → Change FileColumns
+changed_columns c = change (held_columns c.entry.now) (held_columns c.exit.now)
+
+-- each slice is the one that was lent
+abbrev pub SameNames : (before after : FileSlices) → Type 0
+SameNames before after =
+    (after.max_rt.ghost_name ≡ before.max_rt.ghost_name)
+    × (after.slope.ghost_name ≡ before.slope.ghost_name)
+    × (after.intercept.ghost_name ≡ before.intercept.ghost_name)
+    × (after.used.ghost_name ≡ before.used.ghost_name)
+    × (after.max_rt_exact.ghost_name ≡ before.max_rt_exact.ghost_name)
+    × (after.slope_exact.ghost_name ≡ before.slope_exact.ghost_name)
+    × (after.intercept_exact.ghost_name ≡ before.intercept_exact.ghost_name)
+
+abbrev pub SameSlices : Change (MutBor FileSlices) → Type 0
+SameSlices c = SameNames c.entry.now c.exit.now
+
+-- ---- as the parameters of a function that takes them one by one
 
 -- in a `requires`
 abbrev pub file_columns_at : (max_rt slope intercept : MutHeld Float) (used : MutHeld ℕ)
@@ -78,6 +122,19 @@ records_of c =
 
 -- ---- column by column
 
+-- a record in the place n
+abbrev pub stored_at : ℕ → Alignment → FileColumns → FileColumns
+stored_at n a c =
+    record {
+      max_rt = set c.max_rt n a.max_rt;
+      slope = set c.slope n a.slope;
+      intercept = set c.intercept n a.intercept;
+      used = set c.used n a.used;
+      max_rt_exact = set c.max_rt_exact n a.max_rt_exact;
+      slope_exact = set c.slope_exact n a.slope_exact;
+      intercept_exact = set c.intercept_exact n a.intercept_exact;
+    }
+
 -- new cells written over the old ones
 abbrev pub written_over : (new old : FileColumns) → FileColumns
 written_over new old =
@@ -118,16 +175,6 @@ in_front n part whole =
     }
 
 -- ---- lengths
-
--- just n cells each
-pub record EachOf (n : ℕ) (c : FileColumns) : Type 0 where
-  pub max_rt : length c.max_rt ≡ n
-  pub slope : length c.slope ≡ n
-  pub intercept : length c.intercept ≡ n
-  pub used : length c.used ≡ n
-  pub max_rt_exact : length c.max_rt_exact ≡ n
-  pub slope_exact : length c.slope_exact ≡ n
-  pub intercept_exact : length c.intercept_exact ≡ n
 
 -- n cells at least
 pub record EachFrom (n : ℕ) (c : FileColumns) : Type 0 where

@@ -1,19 +1,32 @@
 // The lines of the alignment, after rt_matrix and global_alignment of sage's retention_alignment.rs. The matrix has a
 // row of cells for each peptide and in it a cell for each file: the peptide's smallest time there, or ABSENT. No room
-// is given for the peptides' means, so a file's sums are kept in a column of local arrays while the peptides go by,
-// and each pass works out the means anew.
+// is given for the peptides' means, so a file's sums are kept in local arrays while the peptides go by, and each pass
+// works out the means anew.
 #![tactic(auto)]
 
-ghost use Rattle.std.specs.Prelude.{◌≡◌, length};
+ghost use Rattle.std.specs.Prelude.{◌≡◌, ◌≤◌, ◌+◌, length};
+ghost use Rattle.status.specs.Limits.{max_files};
 ghost use Rattle.rt_matrix.specs.Line.{finite_or, line_of};
-ghost use Rattle.rt_matrix.specs.Cells.{records_from, sums_of, Sized, Fresh, ShapedAt, LinesIn};
-ghost use Rattle.rt_matrix.specs.Columns.{EachOf, each_long, file_columns_at, file_columns_of, records_of};
+ghost use Rattle.rt_matrix.specs.Cells.{records_from, ShapedAt, LinesIn};
+ghost use Rattle.rt_matrix.specs.Columns.{
+  EachFrom,
+  each_long,
+  file_room,
+  held_columns,
+  changed_columns,
+  columns_of,
+  written_over,
+  stored_at,
+  SameSlices,
+};
 
 mod mean;
+mod points;
 mod squares;
 mod sums;
 
 pub use mean::ABSENT;
+use squares::Squares;
 use status::MAX_FILES;
 use sums::Sums;
 
@@ -34,39 +47,53 @@ pub struct Alignment {
     pub intercept_exact: bool,
 }
 
-// The lengths of the columns that hold the files' records.
-#[derive(Clone, Copy)]
-pub struct FileRoom {
-    pub max_rt: usize,
-    pub slope: usize,
-    pub intercept: usize,
-    pub used: usize,
-    pub max_rt_exact: usize,
-    pub slope_exact: usize,
-    pub intercept_exact: usize,
+// The slices that take the files' records, one for each field, as hosts lend them.
+#[derive(Drop)]
+pub struct FileColumns<'a> {
+    pub max_rt: &'a mut [f32],
+    pub slope: &'a mut [f32],
+    pub intercept: &'a mut [f32],
+    pub used: &'a mut [u32],
+    pub max_rt_exact: &'a mut [bool],
+    pub slope_exact: &'a mut [bool],
+    pub intercept_exact: &'a mut [bool],
 }
 
-// Whether each of the columns of these lengths has a cell for each file.
-pub fn columns_long(files: usize, room: FileRoom) -> bool
-    ensures { result ≡ each_long files room }
-{
-    (files <= room.max_rt)
-        & (files <= room.slope)
-        & (files <= room.intercept)
-        & (files <= room.used)
-        & (files <= room.max_rt_exact)
-        & (files <= room.slope_exact)
-        & (files <= room.intercept_exact)
+impl FileColumns<'_> {
+    // Whether each of the columns has a cell for each file.
+    pub fn hold(&self, files: usize) -> bool
+        ensures { result ≡ each_long files (file_room (held_columns self.now)) }
+    {
+        (files <= self.max_rt.len())
+            & (files <= self.slope.len())
+            & (files <= self.intercept.len())
+            & (files <= self.used.len())
+            & (files <= self.max_rt_exact.len())
+            & (files <= self.slope_exact.len())
+            & (files <= self.intercept_exact.len())
+    }
+
+    // Writes a file's record.
+    fn store(&mut self, file: usize, a: Alignment)
+        requires { EachFrom (file + 1) (held_columns self.old) }
+        ensures same { SameSlices self }
+        ensures stored { held_columns self.new ≡ stored_at file a (held_columns self.old) }
+    {
+        self.max_rt[file] = a.max_rt;
+        self.slope[file] = a.slope;
+        self.intercept[file] = a.intercept;
+        self.used[file] = a.used;
+        self.max_rt_exact[file] = a.max_rt_exact;
+        self.slope_exact[file] = a.slope_exact;
+        self.intercept_exact[file] = a.intercept_exact;
+    }
 }
 
 // x, or d where x is not finite.
 fn finite_or(x: f64, d: f64) -> f64
     ensures { result ≡ finite_or d x }
 {
-    if float::is_finite64(x) {
-        return x;
-    }
-    d
+    if float::is_finite64(x) { x } else { d }
 }
 
 // The record of a file with the longest time max, from the sums over its points: the intercept from the raw slope. The
@@ -95,207 +122,50 @@ fn fit_line(max: u32, s: Sums, sx2: f64) -> Alignment
 }
 
 // Writes the record of each file. No NaN is stored but the one that `narrow` gives.
-fn store_alignments(
-    max: &[u32],
-    len: &[u32],
-    dot: &[f64],
-    sum_x: &[f64],
-    sum_y: &[f64],
-    sx2: &[f64],
-    max_rt: &mut [f32],
-    slope: &mut [f32],
-    intercept: &mut [f32],
-    used: &mut [u32],
-    max_rt_exact: &mut [bool],
-    slope_exact: &mut [bool],
-    intercept_exact: &mut [bool],
-)
-    requires { Sized (length max.now) len.now dot.now sum_x.now sum_y.now
-        × (length sx2.now ≡ length max.now)
-        × EachOf (length max.now) (file_columns_at
-        max_rt slope intercept used max_rt_exact slope_exact intercept_exact) }
-    ensures { records_of (file_columns_of
-        max_rt slope intercept used max_rt_exact slope_exact intercept_exact).exit
-        ≡ records_from max.now (sums_of len.now dot.now sum_x.now sum_y.now) sx2.now }
+fn store_alignments(max: &[u32], sums: &[Sums], squares: &[Squares], columns: &mut FileColumns<'_>)
+    requires { (length sums.now ≡ length max.now)
+        × (length squares.now ≡ length max.now)
+        × EachFrom (length max.now) (held_columns columns.old) }
+    ensures same { SameSlices columns }
+    ensures records { held_columns columns.new
+        ≡ written_over (columns_of (records_from max.now sums.now squares.now)) (held_columns columns.old) }
 {
-    let mut f = 0usize;
-    while f < max.len() {
-        let a = fit_line(
-            max[f],
-            Sums {
-                len: len[f],
-                dot: dot[f],
-                sum_x: sum_x[f],
-                sum_y: sum_y[f],
-            },
-            sx2[f],
-        );
-        max_rt[f] = a.max_rt;
-        slope[f] = a.slope;
-        intercept[f] = a.intercept;
-        used[f] = a.used;
-        max_rt_exact[f] = a.max_rt_exact;
-        slope_exact[f] = a.slope_exact;
-        intercept_exact[f] = a.intercept_exact;
-        f += 1;
+    for f in 0..max.len() {
+        columns.store(f, fit_line(max[f], sums[f], squares[f].sx2));
     }
 }
 
-// Writes the record of each file. The slices in between are the files' sums, means and squares as they are before the
-// first peptide.
-fn fit_columns(
+// `fit_lines` with local arrays of N files.
+fn fit_with<const N: usize>(
     cells: &[f64],
     max: &[u32],
     peptides: usize,
-    len: &mut [u32],
-    dot: &mut [f64],
-    sum_x: &mut [f64],
-    sum_y: &mut [f64],
-    x_mean: &mut [f64],
-    sx2: &mut [f64],
-    max_rt: &mut [f32],
-    slope: &mut [f32],
-    intercept: &mut [f32],
-    used: &mut [u32],
-    max_rt_exact: &mut [bool],
-    slope_exact: &mut [bool],
-    intercept_exact: &mut [bool],
+    columns: &mut FileColumns<'_>,
 )
-    requires fresh { Fresh
-        (length max.now)
-        len.old
-        dot.old
-        sum_x.old
-        sum_y.old
-        x_mean.old
-        sx2.old }
-    requires shaped_at { ShapedAt cells max peptides
-        (file_columns_at max_rt slope intercept used max_rt_exact slope_exact intercept_exact) }
-    ensures { LinesIn cells max peptides
-        (file_columns_of max_rt slope intercept used max_rt_exact slope_exact intercept_exact) }
-{
-    sums::add_peptides(cells, max, peptides, len, dot, sum_x, sum_y);
-    squares::x_means(len, sum_x, x_mean);
-    squares::add_peptides(cells, max, peptides, x_mean, sx2);
-    store_alignments(
-        max,
-        len,
-        dot,
-        sum_x,
-        sum_y,
-        sx2,
-        max_rt,
-        slope,
-        intercept,
-        used,
-        max_rt_exact,
-        slope_exact,
-        intercept_exact,
-    );
-}
-
-// `fit_lines` for any number of files within the limits, with arrays of the largest number.
-fn fit_many(
-    cells: &[f64],
-    max: &[u32],
-    peptides: usize,
-    max_rt: &mut [f32],
-    slope: &mut [f32],
-    intercept: &mut [f32],
-    used: &mut [u32],
-    max_rt_exact: &mut [bool],
-    slope_exact: &mut [bool],
-    intercept_exact: &mut [bool],
-)
-    requires { ShapedAt cells max peptides
-        (file_columns_at max_rt slope intercept used max_rt_exact slope_exact intercept_exact) }
-    ensures { LinesIn cells max peptides
-        (file_columns_of max_rt slope intercept used max_rt_exact slope_exact intercept_exact) }
+    requires fits { (length max.now ≤ N) × (N ≤ max_files) }
+    requires shaped { ShapedAt cells max peptides (held_columns columns.old) }
+    ensures same { SameSlices columns }
+    ensures lines { LinesIn cells max peptides (changed_columns columns) }
 {
     let files = max.len();
-    let mut len = [0u32; MAX_FILES];
-    let mut dot = [0.0f64; MAX_FILES];
-    let mut sum_x = [0.0f64; MAX_FILES];
-    let mut sum_y = [0.0f64; MAX_FILES];
-    let mut x_mean = [0.0f64; MAX_FILES];
-    let mut sx2 = [1e-8f64; MAX_FILES];
-    fit_columns(
-        cells,
-        max,
-        peptides,
-        &mut len[..files],
-        &mut dot[..files],
-        &mut sum_x[..files],
-        &mut sum_y[..files],
-        &mut x_mean[..files],
-        &mut sx2[..files],
-        max_rt,
-        slope,
-        intercept,
-        used,
-        max_rt_exact,
-        slope_exact,
-        intercept_exact,
-    );
+    let mut sums = [Sums::START; N];
+    points::add_peptides(&mut sums[..files], cells, max, peptides);
+    let mut squares = [Squares::START; N];
+    squares::set_means(&mut squares[..files], &sums[..files]);
+    points::add_peptides(&mut squares[..files], cells, max, peptides);
+    store_alignments(max, &sums[..files], &squares[..files], columns);
 }
 
 // Writes the record of each file, from the files' longest times and, peptide by peptide, the smallest time in each file
-// or ABSENT. For `retention_alignment`, which knows the lengths.
-pub fn fit_lines(
-    cells: &[f64],
-    max: &[u32],
-    peptides: usize,
-    max_rt: &mut [f32],
-    slope: &mut [f32],
-    intercept: &mut [f32],
-    used: &mut [u32],
-    max_rt_exact: &mut [bool],
-    slope_exact: &mut [bool],
-    intercept_exact: &mut [bool],
-)
-    requires { ShapedAt cells max peptides
-        (file_columns_at max_rt slope intercept used max_rt_exact slope_exact intercept_exact) }
-    ensures { LinesIn cells max peptides
-        (file_columns_of max_rt slope intercept used max_rt_exact slope_exact intercept_exact) }
+// or ABSENT. Columns that are longer keep their rest. For `retention_alignment`, which knows the lengths.
+pub fn fit_lines(cells: &[f64], max: &[u32], peptides: usize, columns: &mut FileColumns<'_>)
+    requires { ShapedAt cells max peptides (held_columns columns.old) }
+    ensures same { SameSlices columns }
+    ensures lines { LinesIn cells max peptides (changed_columns columns) }
 {
-    let files = max.len();
-    if FEW_FILES < files {
-        fit_many(
-            cells,
-            max,
-            peptides,
-            max_rt,
-            slope,
-            intercept,
-            used,
-            max_rt_exact,
-            slope_exact,
-            intercept_exact,
-        );
-        return;
+    if max.len() <= FEW_FILES {
+        fit_with::<FEW_FILES>(cells, max, peptides, columns);
+    } else {
+        fit_with::<MAX_FILES>(cells, max, peptides, columns);
     }
-    let mut len = [0u32; FEW_FILES];
-    let mut dot = [0.0f64; FEW_FILES];
-    let mut sum_x = [0.0f64; FEW_FILES];
-    let mut sum_y = [0.0f64; FEW_FILES];
-    let mut x_mean = [0.0f64; FEW_FILES];
-    let mut sx2 = [1e-8f64; FEW_FILES];
-    fit_columns(
-        cells,
-        max,
-        peptides,
-        &mut len[..files],
-        &mut dot[..files],
-        &mut sum_x[..files],
-        &mut sum_y[..files],
-        &mut x_mean[..files],
-        &mut sx2[..files],
-        max_rt,
-        slope,
-        intercept,
-        used,
-        max_rt_exact,
-        slope_exact,
-        intercept_exact,
-    );
 }

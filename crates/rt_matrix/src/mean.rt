@@ -6,7 +6,8 @@ ghost use Rattle.float.specs.Number.{number};
 ghost use Rattle.rt_matrix.specs.Line.{mean};
 ghost use Rattle.rt_matrix.specs.Cells.{shares_of};
 
-// The cell of a peptide that has no time in a file: 1E300, which no f32 equals.
+// The cell of a peptide that has no time in a file: 1E300, which no f32 equals. A mark and no Option, since
+// the cells lie in the caller's workspace of f64.
 pub const ABSENT: f64 = 1e300;
 
 // A time as a share of its file's longest time.
@@ -23,13 +24,9 @@ pub(crate) fn row_mean(row: &[f64], max: &[u32]) -> f64
 {
     let mut sum = 0.0f64;
     let mut n = 0u32;
-    let mut f = 0usize;
-    while f < row.len() {
-        let cell = row[f];
-        let m = max[f];
-        f += 1;
-        if cell != ABSENT {
-            sum = sum + share(cell, m);
+    for f in 0..row.len() {
+        if row[f] != ABSENT {
+            sum = sum + share(row[f], max[f]);
             n += 1;
         }
     }

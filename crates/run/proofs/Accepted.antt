@@ -16,8 +16,7 @@ use Rattle.feature.proofs.Training.{Columns}
 use Rattle.peptide.specs.Table.{offsets_right, letters_right, table_status}
 use Rattle.peptide.proofs.Laws.{status_by_lem}
 use Rattle.rt_matrix.specs.Columns.{each_long}
-use Rattle.retention_alignment.specs.Call.{status_by as align_status}
-use Rattle.retention_alignment.specs.declared.Room.{Room as AlignRoom}
+use Rattle.retention_alignment.specs.Call.{Input as AlignInput, Room as AlignRoom, status_by as align_status}
 use Rattle.embedding.specs.Design.{order_of}
 use Rattle.embedding.specs.declared.Model.{Model}
 use Rattle.embedding.specs.declared.Model.TheVariants.{Retention, Mobility}
@@ -25,10 +24,8 @@ use Rattle.regression.specs.Workspace.{workspace_cells}
 use Rattle.model_fit.specs.Input.{Input as ModelInput, lengths_right, status_by as model_status}
 use Rattle.model_fit.proofs.Status.{status_is}
 use Rattle.models.specs.Call.{predict_room}
-use Rattle.run.specs.Call.{Input, peptides, needed_cells, model_long, long_enough, checks, status_by}
+use Rattle.run.specs.Call.{Input, ModelRoom, Room, peptides, needed_cells, model_long, long_enough, checks, status_by}
 use Rattle.run.specs.Parts.{align_input}
-use Rattle.run.specs.declared.checks.ModelRoom.{ModelRoom}
-use Rattle.run.specs.declared.checks.Room.{Room}
 
 -- ---- what was passed
 
@@ -140,6 +137,10 @@ module _ (i : Input) (room : Room) (p : Passed i room) where
         p.peptide_numbers,
       )
       refl
+
+  -- passed by its own struct
+  pub align_accepts_by : (m : AlignInput) → m ≡ align_input i → align_status m (align_room room) ≡ accepted
+  align_accepts_by m e = rw e align_accepts
 
   -- ---- and so do the models
 

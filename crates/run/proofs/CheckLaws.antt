@@ -11,11 +11,22 @@ use borrow.Author.Tests.{le-leb, lt-leb}
 use lib.ListN.{length}
 use Rattle.status.specs.Checks.{every, lengths_agree, all_below}
 use Rattle.status.specs.Limits.{within_limits}
-use Rattle.status.specs.Status.{accepted, bad_lengths, past_limit, too_short, bad_file, bad_peptide, first_failing}
-use Rattle.peptide.specs.Table.{table_status}
+use Rattle.status.specs.Status.{
+  accepted,
+  bad_lengths,
+  past_limit,
+  too_short,
+  bad_file,
+  bad_peptide,
+  bad_letter,
+  bad_offsets,
+  first_failing,
+  number_of,
+  refusal_by,
+}
+use Rattle.peptide.specs.Table.{table_status, offsets_right, letters_right}
 use Rattle.peptide.proofs.Laws.{table_first}
-use Rattle.run.specs.Call.{Input, peptides, columns_agree, long_enough, status_by}
-use Rattle.run.specs.declared.checks.Room.{Room}
+use Rattle.run.specs.Call.{Input, Room, peptides, columns_agree, long_enough, status_by}
 
 -- six lengths that agree, as four and two
 both : (a b c d e f : Bool)
@@ -88,3 +99,34 @@ status_by_lem i room a b c t f g one two three table four five =
       five,
       table_first i.table.letters i.table.offsets (peptides i) later,
     )
+
+-- the number of a refusal is the status that refuses
+pub refused_number : (i : Input) (room : Room) → (status_by i room ≡ accepted → ⊥)
+    → number_of (refusal_by (status_by i room)) ≡ status_by i room
+unfolding status_by
+refused_number i room =
+    by_tests (columns_agree i) (within_limits i.files (length i.file) (peptides i))
+    (long_enough i.files (peptides i) (length i.file) room)
+    (offsets_right (peptides i) (length i.table.letters) i.table.offsets) (letters_right i.table.letters)
+    (all_below i.files i.file) (all_below (peptides i) i.peptide)
+  where
+    by_tests : (a b c d e f g : Bool)
+        → let n =
+        first_failing
+        ((bad_lengths, a)
+        ∷ (past_limit, b)
+        ∷ (too_short, c)
+        ∷ (bad_offsets, d)
+        ∷ (bad_letter, e)
+        ∷ (bad_file, f)
+        ∷ (bad_peptide, g)
+        ∷ []) in
+        (n ≡ accepted → ⊥) → number_of (refusal_by n) ≡ n
+    by_tests false b c d e f g h = refl
+    by_tests true false c d e f g h = refl
+    by_tests true true false d e f g h = refl
+    by_tests true true true false e f g h = refl
+    by_tests true true true true false f g h = refl
+    by_tests true true true true true false g h = refl
+    by_tests true true true true true true false h = refl
+    by_tests true true true true true true true h = absurd (h refl)

@@ -11,36 +11,36 @@ use lib.Ieee.{Float}
 use lib.ListN.{length, take, drop, replicate, length-map, length-replicate, replicate-append-replicate}
 use lib.Seq.{take_at, drop_at, length-take-le, drop-append-add, drop-drop}
 use borrow.Author.Tests.{eq-eqb, ne_eqb}
+use Rattle.std.specs.Prelude.{Result, Ok, Err}
 use Rattle.params.specs.Slice.{change}
 use Rattle.status.specs.Checks.{every}
-use Rattle.status.specs.Status.{accepted}
+use Rattle.status.specs.Status.{accepted, checked}
+use Rattle.status.specs.declared.Refusal.{Refusal}
+use Rattle.status.specs.Told.{only}
 use Rattle.float.specs.Number.{zero64}
 use Rattle.matrix.specs.Lists.{overwritten}
 use Rattle.feature.specs.Feature.{Row, training}
-use Rattle.retention_alignment.specs.Call.{Slices as AlignSlices, Filled as AlignFilled}
-use Rattle.retention_alignment.specs.declared.AlignAnswer.TheVariants.{Accepted}
+use Rattle.retention_alignment.specs.Call.{Input as AlignInput, Slices as AlignSlices, Filled as AlignFilled}
 use Rattle.retention_alignment.proofs.Calls.{accepted_is}
 use Rattle.embedding.specs.Design.{order_of}
 use Rattle.embedding.specs.declared.Model.TheVariants.{Retention, Mobility}
-use Rattle.regression.specs.Regression.{Fit, fit_of}
+use Rattle.regression.specs.Regression.{Fitting, fit_of}
 use Rattle.regression.specs.Workspace.{workspace_cells}
 use Rattle.model_fit.specs.Input.{Input as ModelInput, Query, queries, columns_agree as model_columns}
 use Rattle.model_fit.specs.Samples.{fit_of_input}
 use Rattle.model_fit.specs.Shared.{Checked}
 use Rattle.model_fit.proofs.Status.{accepted_checked, accepted_room}
 use Rattle.models.specs.Prediction.{predictions, errors, error_of, is_solved, prediction_of, inexact, inexact_in}
-use Rattle.models.specs.Call.{PredictSlices, PredictCall, PredictedWithin, predict_room_in, predict_status}
+use Rattle.models.specs.Call.{ModelOutputs, PredictSlices, PredictCall, PredictedWithin, predict_room_in, predict_status}
 use Rattle.models.specs.declared.PredictOutcome.{PredictOutcome}
-use Rattle.models.specs.declared.PredictAnswer.{PredictAnswer}
-use Rattle.models.specs.declared.PredictAnswer.TheVariants.{Predicted}
-use Rattle.models.proofs.Calls.{predict_accepted}
+use Rattle.models.proofs.Calls.{predict_accepted, refused_by}
 use Rattle.run.specs.Fitted.{RowOutcome, of_retention, of_mobility, row_query, target, fitted, outcome}
 use Rattle.run.specs.Call.{model_room, room_of}
 use Rattle.run.specs.Call.{Input, Slices, rows, peptides, fitted_by, outcomes, errors_of, inexact_of}
 use Rattle.run.specs.Call.{answer_of, told_by, filled, Filled, slices_after, RunCall, status}
 use Rattle.run.specs.Parts.{align_input, retention_input, mobility_input}
-use Rattle.run.specs.declared.RunAnswer.{RunAnswer}
-use Rattle.run.specs.declared.RunAnswer.TheVariants.{Ran, Refused}
+use Rattle.run.specs.declared.Ran.{Ran}
+use Rattle.run.proofs.CheckLaws.{refused_number}
 use Rattle.run.proofs.Rows.{retention_queries, mobility_queries, samples_of, mobility_samples}
 use Rattle.run.proofs.Rows.{
   mobility_predictions,
@@ -129,7 +129,7 @@ module _ (i : Input) (k : ColumnsIn i) where
     retention_predictions =
         let beta = (fitted_by i).retention.coefficients in
         let solved = is_solved (fitted_by i).retention.outcome in
-        ap (λ (x : Fit).
+        ap (λ (x : Fitting).
         cond (is_solved x.outcome)
         (map (prediction_of Retention i.table x.coefficients) (queries i.peptide [])) [])
         retention_fit
@@ -147,13 +147,13 @@ module _ (i : Input) (k : ColumnsIn i) where
     retention_inexact =
         let beta = (fitted_by i).retention.coefficients in
         let solved = is_solved (fitted_by i).retention.outcome in
-        ap (λ (x : Fit).
+        ap (λ (x : Fitting).
         cond (is_solved x.outcome) (inexact_in Retention i.table x.coefficients (queries i.peptide [])) 0)
         retention_fit
         ∙ ap (λ (x : List Query). cond solved (inexact_in Retention i.table beta x) 0) queries_of_retention
 
     -- an accepted call on such times
-    pub retention_part : (s t : PredictSlices) (r : PredictAnswer)
+    pub retention_part : (s t : PredictSlices) (r : Result PredictOutcome Refusal)
         → predict_status Retention (retention_input i observed) s ≡ accepted
         → PredictCall Retention (retention_input i observed) (change s t) r → ModelPart of_retention i s t r
     retention_part s t r accept c =
@@ -179,7 +179,7 @@ module _ (i : Input) (k : ColumnsIn i) where
       let beta = (fitted_by i).mobility.coefficients in
       let solved = is_solved (fitted_by i).mobility.outcome in
       let asked = queries i.peptide i.charge in
-      ap (λ (x : Fit).
+      ap (λ (x : Fitting).
       cond (is_solved x.outcome) (map (prediction_of Mobility (mobility_input i).table x.coefficients) asked) [])
       mobility_fit
       ∙ ap (λ (x : List Float). cond solved x [])
@@ -198,14 +198,14 @@ module _ (i : Input) (k : ColumnsIn i) where
       let beta = (fitted_by i).mobility.coefficients in
       let solved = is_solved (fitted_by i).mobility.outcome in
       let asked = queries i.peptide i.charge in
-      ap (λ (x : Fit).
+      ap (λ (x : Fitting).
       cond (is_solved x.outcome) (inexact_in Mobility (mobility_input i).table x.coefficients asked) 0)
       mobility_fit
       ∙ ap (λ (n : ℕ). cond solved n 0)
       (mobility_counts i.table.letters i.table.offsets i.table.masses i.table.logs beta asked)
       ∙ ap (λ (x : List Query). cond solved (inexact_in Mobility i.table beta x) 0) queries_of_mobility
 
-  pub mobility_part : (s t : PredictSlices) (r : PredictAnswer)
+  pub mobility_part : (s t : PredictSlices) (r : Result PredictOutcome Refusal)
       → predict_status Mobility (mobility_input i) s ≡ accepted
       → PredictCall Mobility (mobility_input i) (change s t) r → ModelPart of_mobility i s t r
   mobility_part s t r accept c =
@@ -216,7 +216,7 @@ module _ (i : Input) (k : ColumnsIn i) where
 -- ---- the models accept
 
 -- predictions that are answered alike are alike
-same_outcome : (a b : PredictOutcome) → Predicted a ≡ Predicted b → a ≡ b
+same_outcome : (a b : PredictOutcome) → ◌≡◌ {A = Result PredictOutcome Refusal} (Ok a) (Ok b) → a ≡ b
 same_outcome a b e = cc
 
 module _ (i : Input) (s : Slices) (p : Passed i (room_of s)) where
@@ -281,6 +281,17 @@ module _ (i : Input) (s : Slices) (p : Passed i (room_of s)) where
       let a : predict_status Mobility m (mobility_slices ws) ≡ accepted = mobility_accepts ws w in
       (accepted_checked Mobility m long a, accepted_room Mobility m long a)
 
+  -- passed by their own structs
+  pub retention_ready_by : (m : ModelInput) (observed ws : List Float) → m ≡ retention_input i observed
+      → length observed ≡ length i.file → length ws ≡ length s.workspace
+      → Checked m × (predict_room_in Retention m (retention_slices ws) ≡ true)
+  retention_ready_by m observed ws e l w = rw e (retention_ready observed ws l w)
+
+  pub mobility_ready_by : (m : ModelInput) (ws : List Float) → m ≡ mobility_input i
+      → length ws ≡ length s.workspace
+      → Checked m × (predict_room_in Mobility m (mobility_slices ws) ≡ true)
+  mobility_ready_by m ws e w = rw e (mobility_ready ws w)
+
   -- ---- all together
 
   abbrev align_slices : AlignSlices
@@ -301,24 +312,24 @@ module _ (i : Input) (s : Slices) (p : Passed i (room_of s)) where
         aligned = t.aligned;
         retention = t₁.outputs;
         mobility = t₂.outputs;
-      })) (Ran r₁ r₂)
+      })) (record { retention = r₁; mobility = r₂ })
   unfolding filled
   run_filled t c lw la t₁ r₁ c₁ l₁ t₂ r₂ c₂ =
       let n : ℕ = length i.file in
       let ok = align_accepts i (room_of s) p in
       let a : AlignPart i align_slices t =
-      align_part i p.columns align_slices t Accepted ok (accepted_is (align_input i) align_slices t ok c) in
+      align_part i p.columns align_slices t (Ok tt) ok (accepted_is (align_input i) align_slices t ok c) in
       let times : List Float = take n t.aligned in
       let long = length-take-le n t.aligned (omega (arith, p.long.aligned)) in
       let s₁ : PredictSlices = retention_slices t.workspace in
       let ok₁ = retention_accepts times t.workspace long lw in
-      let x : ModelPart of_retention i s₁ t₁ (Predicted r₁) =
-      retention_part i p.columns times (targets_written i p.columns align_slices t a) s₁ t₁ (Predicted r₁) ok₁
+      let x : ModelPart of_retention i s₁ t₁ (Ok r₁) =
+      retention_part i p.columns times (targets_written i p.columns align_slices t a) s₁ t₁ (Ok r₁) ok₁
       (predict_accepted Retention (retention_input i times) s₁ t₁ r₁ ok₁ c₁) in
       let s₂ : PredictSlices = mobility_slices t₁.workspace in
       let ok₂ = mobility_accepts t₁.workspace l₁ in
-      let y : ModelPart of_mobility i s₂ t₂ (Predicted r₂) =
-      mobility_part i p.columns s₂ t₂ (Predicted r₂) ok₂
+      let y : ModelPart of_mobility i s₂ t₂ (Ok r₂) =
+      mobility_part i p.columns s₂ t₂ (Ok r₂) ok₂
       (predict_accepted Mobility (mobility_input i) s₂ t₂ r₂ ok₂ c₂) in
       let cells : ℕ = peptides i * i.files in
       let first : ℕ = workspace_cells (order_of Retention) in
@@ -333,7 +344,7 @@ module _ (i : Input) (s : Slices) (p : Passed i (room_of s)) where
       ∙ ap (λ (k : ℕ). overwritten (replicate k zero64) s.workspace)
       {x = max second (max first cells)} {y = max cells second} (omega arith) in
       record {
-        answer = λ k. Ran (same_outcome r₁ _ x.answer k) (same_outcome r₂ _ y.answer k);
+        answer = λ k. record { retention = same_outcome r₁ _ x.answer k; mobility = same_outcome r₂ _ y.answer k };
         slices = λ k.
             record {
               workspace = workspace_is k;
@@ -344,22 +355,59 @@ module _ (i : Input) (s : Slices) (p : Passed i (room_of s)) where
             };
       }
 
+  -- by the structs that the three calls were passed
+  pub run_filled_by : (m : AlignInput) (t : AlignSlices) → m ≡ align_input i → AlignFilled m (change align_slices t)
+      → length t.workspace ≡ length s.workspace → length t.aligned ≡ length s.aligned
+      → (m₁ : ModelInput) (t₁ : PredictSlices) (r₁ : PredictOutcome)
+      → m₁ ≡ retention_input i (take (length i.file) t.aligned)
+      → PredictedWithin Retention m₁ (change (retention_slices t.workspace) t₁) r₁
+      → length t₁.workspace ≡ length s.workspace
+      → (m₂ : ModelInput) (t₂ : PredictSlices) (r₂ : PredictOutcome) → m₂ ≡ mobility_input i
+      → PredictedWithin Mobility m₂ (change (mobility_slices t₁.workspace) t₂) r₂
+      → Filled i (change s (record {
+        workspace = t₂.workspace;
+        records = t.records;
+        aligned = t.aligned;
+        retention = t₁.outputs;
+        mobility = t₂.outputs;
+      })) (record { retention = r₁; mobility = r₂ })
+  run_filled_by m t e c lw la m₁ t₁ r₁ e₁ c₁ l₁ m₂ t₂ r₂ e₂ c₂ =
+      run_filled t (rw e at c) lw la t₁ r₁ (rw e₁ at c₁) l₁ t₂ r₂ (rw e₂ at c₂)
+
 -- ---- the contract
 
-pub run_refused : (i : Input) (s : Slices) (n : ℕ) → n ≡ status i s → (n ≡ 0 → ⊥)
-    → RunCall i (change s s) (Refused n)
+pub run_refused : (i : Input) (s : Slices) (r : Refusal) → Err r ≡ checked (status i s) → RunCall i (change s s) (Err r)
 unfolding answer_of slices_after
-run_refused i s n e h =
-    let test : eqb (status i s) accepted ≡ false = ne_eqb (status i s) 0 (λ z. h (e ∙ z)) in
-    rw e (record { answer = simp test; told = simp test; slices = simp test })
+run_refused i s r e =
+    let known = refused_by (status i s) r (sym e) in
+    let test : eqb (status i s) accepted ≡ false = ne_eqb (status i s) 0 known.0 in
+    record {
+      answer = simp test (ap Err known.1);
+      told = simp test (rw known.1 (ap only (refused_number i (room_of s) known.0)));
+      slices = simp test;
+    }
 
-pub run_accepted : (i : Input) (s t : Slices) (r : RunAnswer) → status i s ≡ accepted → Filled i (change s t) r
-    → RunCall i (change s t) r
+-- whose outputs keep what they held
+pub run_refused_by : (i : Input) (s : Slices) (r : Refusal) (retention mobility : ModelOutputs)
+    → Err r ≡ checked (status i s) → retention ≡ s.retention → mobility ≡ s.mobility
+    → RunCall i
+    (change s (record {
+      workspace = s.workspace;
+      records = s.records;
+      aligned = s.aligned;
+      retention = retention;
+      mobility = mobility;
+    }))
+    (Err r)
+run_refused_by i s r retention mobility e x y = rw (x, y) (run_refused i s r e)
+
+pub run_accepted : (i : Input) (s t : Slices) (r : Ran) → status i s ≡ accepted → Filled i (change s t) r
+    → RunCall i (change s t) (Ok r)
 unfolding answer_of slices_after
 run_accepted i s t r e f =
     let test : eqb (status i s) accepted ≡ true = eq-eqb (status i s) 0 e in
     record {
-      answer = rw test f.answer;
-      told = rw test (ap told_by f.answer);
+      answer = rw test (ap Ok f.answer);
+      told = rw test (ap told_by (ap Ok f.answer));
       slices = rw test f.slices;
     }

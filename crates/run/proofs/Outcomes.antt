@@ -6,8 +6,8 @@ use mathlib.Core.Option.{none, some}
 use Rattle.feature.specs.Feature.{Row}
 use Rattle.peptide.specs.Table.{Table}
 use Rattle.rt_matrix.specs.Line.{present}
-use Rattle.regression.specs.declared.FitOutcome.{FitOutcome}
-use Rattle.regression.specs.declared.FitOutcome.TheVariants.{Solved, NoTrainingRows, NotSolved}
+use Rattle.std.specs.Prelude.{Ok, Err}
+use Rattle.regression.specs.Regression.{Outcome}
 use Rattle.models.specs.Prediction.{is_solved}
 use Rattle.run.specs.Fitted.{Fitted, Predicted, Part, of_retention, of_mobility, fit_of_part}
 use Rattle.run.specs.Fitted.{where_fitted, result_by, outcome, result_of}
@@ -23,20 +23,18 @@ module _ (table : Table) (f : Fitted) where
       → result_of part (outcome table f r) ≡ some (result_by part table f r)
   result_solved part r h = result_is part r ∙ given (fit_of_part part f).outcome h
     where
-      given : (o : FitOutcome) → is_solved o ≡ true
+      given : (o : Outcome) → is_solved o ≡ true
           → where_fitted o (result_by part table f r) ≡ some (result_by part table f r)
-      given (Solved ridge r2 n) t = refl
-      given NoTrainingRows t = absurd (false≢true t)
-      given NotSolved t = absurd (false≢true t)
+      given (Ok fit) t = refl
+      given (Err u) t = absurd (false≢true t)
 
   result_unsolved : (part : Part) (r : Row) → is_solved (fit_of_part part f).outcome ≡ false
       → result_of part (outcome table f r) ≡ none
   result_unsolved part r h = result_is part r ∙ given (fit_of_part part f).outcome h
     where
-      given : (o : FitOutcome) → is_solved o ≡ false → where_fitted o (result_by part table f r) ≡ none
-      given (Solved ridge r2 n) t = absurd (true≢false t)
-      given NoTrainingRows t = refl
-      given NotSolved t = refl
+      given : (o : Outcome) → is_solved o ≡ false → where_fitted o (result_by part table f r) ≡ none
+      given (Ok fit) t = absurd (true≢false t)
+      given (Err u) t = refl
 
   -- where it fits, one for each row
   pub results_solved : (part : Part) (rows : List Row) → is_solved (fit_of_part part f).outcome ≡ true

@@ -5,8 +5,10 @@ use mathlib.Core.List.{List, map}
 use Prim.Native.Nat.{ℕ, ◌*◌}
 use lib.Ieee.{Float}
 use lib.ListN.{length, replicate}
+use Rattle.std.specs.Prelude.{⊤, Result, Ok}
 use Rattle.params.specs.Slice.{change}
 use Rattle.status.specs.Status.{accepted}
+use Rattle.status.specs.declared.Refusal.{Refusal}
 use Rattle.status.proofs.Told.{if_accepted_lem}
 use Rattle.float.specs.Number.{zero64}
 use Rattle.matrix.specs.Lists.{overwritten}
@@ -18,17 +20,15 @@ use Rattle.retention_alignment.specs.Observation.{Obs, observations, max_rts}
 use Rattle.retention_alignment.specs.Alignments.{alignments, aligned}
 use Rattle.retention_alignment.specs.Call.{Slices as AlignSlices, Aligned, records_for, status as align_status}
 use Rattle.retention_alignment.specs.Call.{filled as align_filled, slices_after as align_after}
-use Rattle.retention_alignment.specs.declared.AlignAnswer.{AlignAnswer}
 use Rattle.embedding.specs.Design.{order_of}
 use Rattle.embedding.specs.declared.Model.TheVariants.{Retention}
-use Rattle.regression.specs.Regression.{Fit}
+use Rattle.regression.specs.Regression.{Fitting}
 use Rattle.regression.specs.Workspace.{workspace_cells}
 use Rattle.model_fit.specs.Input.{Input as ModelInput}
 use Rattle.model_fit.specs.Samples.{fit_of_input}
 use Rattle.models.specs.Prediction.{predictions, errors, inexact}
-use Rattle.models.specs.Call.{PredictSlices, PredictCall, predict_status, predict_filled, predict_outcome, predict_answer_of}
-use Rattle.models.specs.declared.PredictAnswer.{PredictAnswer}
-use Rattle.models.specs.declared.PredictAnswer.TheVariants.{Predicted}
+use Rattle.models.specs.Call.{PredictSlices, PredictCall, predict_status, predict_filled, predict_outcome, answer_of}
+use Rattle.models.specs.declared.PredictOutcome.{PredictOutcome}
 use Rattle.run.specs.Fitted.{RowOutcome, obs_of, target, longest, file_records, fitted, outcome}
 use Rattle.run.specs.Fitted.{Part, model_of, fit_of_part}
 use Rattle.run.specs.Call.{Input, rows, peptides, fitted_by, inexact_of, predict_outcome_of, outcomes}
@@ -90,7 +90,7 @@ pub record AlignPart (i : Input) (s t : AlignSlices) : Type 0 where
   pub records : t.records ≡ written_over (columns_of (fitted_by i).records) s.records
   pub aligned : t.aligned ≡ overwritten (map (λ (o : RowOutcome). o.aligned) (outcomes i)) s.aligned
 
-pub align_part : (i : Input) → ColumnsIn i → (s t : AlignSlices) (r : AlignAnswer)
+pub align_part : (i : Input) → ColumnsIn i → (s t : AlignSlices) (r : Result ⊤ Refusal)
     → align_status (align_input i) s ≡ accepted → Aligned (align_input i) (change s t) r → AlignPart i s t
 unfolding align_filled align_after
 align_part i k s t r accept c =
@@ -108,13 +108,13 @@ align_part i k s t r accept c =
 
 -- ---- a model
 
-pub record ModelPart (part : Part) (i : Input) (s t : PredictSlices) (r : PredictAnswer) : Type 0 where
-  pub answer : r ≡ Predicted (predict_outcome_of part i)
+pub record ModelPart (part : Part) (i : Input) (s t : PredictSlices) (r : Result PredictOutcome Refusal) : Type 0 where
+  pub answer : r ≡ Ok (predict_outcome_of part i)
   pub workspace : t.workspace
       ≡ overwritten (replicate (workspace_cells (order_of (model_of part))) zero64) s.workspace
   pub outputs : t.outputs ≡ filled_model part i s.outputs
 
-module _ (part : Part) (i : Input) (m : ModelInput) (s t : PredictSlices) (r : PredictAnswer)
+module _ (part : Part) (i : Input) (m : ModelInput) (s t : PredictSlices) (r : Result PredictOutcome Refusal)
     (accept : predict_status (model_of part) m s ≡ accepted)
     (fit : fit_of_input (model_of part) m ≡ fit_of_part part (fitted_by i))
     (predictions_are : predictions (model_of part) m ≡ predictions_of part i)
@@ -126,14 +126,14 @@ module _ (part : Part) (i : Input) (m : ModelInput) (s t : PredictSlices) (r : P
       let o = s.outputs in
       let after_is : t ≡ predict_filled model m s =
       c.slices ∙ if_accepted_lem (predict_status model m s) (predict_filled model m s) s accept in
-      let coefficients_are = ap (λ (f : Fit). overwritten f.coefficients o.coefficients) fit in
+      let coefficients_are = ap (λ (f : Fitting). overwritten f.coefficients o.coefficients) fit in
       let predicted_are = ap (λ (x : List Float). overwritten x o.predicted) predictions_are in
       let error_are = ap (λ (x : List Float). overwritten x o.error) errors_are in
       record {
         answer =
             c.answer
-            ∙ ap (λ (n : ℕ). predict_answer_of n (predict_outcome model m)) accept
-            ∙ ap Predicted (λ k. record { fit = (fit k).outcome; inexact = inexact_is k });
+            ∙ ap (λ (n : ℕ). answer_of n (predict_outcome model m)) accept
+            ∙ ap Ok (λ k. record { fit = (fit k).outcome; inexact = inexact_is k });
         workspace = ap (λ (x : PredictSlices). x.workspace) after_is;
         outputs =
             ap (λ (x : PredictSlices). x.outputs) after_is

@@ -16,7 +16,7 @@ use Rattle.retention_alignment.specs.Observation.{Obs, observations}
 use Rattle.model_fit.specs.Input.{Query, queries, table_of}
 use Rattle.model_fit.specs.Samples.{sample_of}
 use Rattle.matrix.proofs.Lists.{zip_with_map, zip_with_none}
-use Rattle.model_fit.proofs.Rows.{queries_map, queries_bare}
+use Rattle.model_fit.proofs.RowLaws.{queries_map, queries_bare}
 use Rattle.models.specs.Prediction.{prediction_of, error_of, inexact_in, is_solved}
 use Rattle.rt_matrix.specs.Line.{present}
 use Rattle.run.specs.Fitted.{Fitted, Predicted, obs_of, row_query, target, row_sample, outcome}

@@ -1,5 +1,6 @@
 -- A call of `run`: what it is passed, its status, what it answers, and what it leaves in every slice. Definitions only.
 use Rattle.std.specs.Prelude.{◌≡◌, Bool, ◌&&◌, cond, List, [], ◌∷◌, map, ℕ, ◌*◌, max, leb, ℤ, Float, length, replicate}
+use Rattle.std.specs.Prelude.{Result, Ok, Err}
 use Rattle.params.specs.Slice.{Held, MutHeld, Change, change, Slice, MutSlice}
 use Rattle.float.specs.Number.{zero64}
 use Rattle.matrix.specs.Lists.{overwritten}
@@ -15,25 +16,26 @@ use Rattle.status.specs.Status.{
   bad_file,
   bad_peptide,
   first_failing,
+  number_of,
+  refusal_by,
 }
+use Rattle.status.specs.declared.Refusal.{Refusal}
 use Rattle.status.specs.Told.{Told, gives, only, if_accepted, told_for}
 use Rattle.peptide.specs.Table.{Table, offsets_right, letters_right}
 use Rattle.embedding.specs.Design.{order_of}
 use Rattle.embedding.specs.declared.Model.{Model}
 use Rattle.embedding.specs.declared.Model.TheVariants.{Retention, Mobility}
 use Rattle.rt_matrix.specs.Line.{present}
-use Rattle.rt_matrix.specs.Columns.{FileColumns, columns_of, written_over, file_room, each_long}
+use Rattle.rt_matrix.specs.Columns.{FileColumns, FileRoom, columns_of, written_over, file_room, each_long}
 use Rattle.regression.specs.Workspace.{workspace_cells}
-use Rattle.model_fit.specs.Input.{table_at}
+use Rattle.model_fit.specs.Input.{table_at, table_of}
 use Rattle.models.specs.Prediction.{is_solved, inexact_in}
 use Rattle.models.specs.Call.{ModelOutputs, PredictValues, predict_outcome_told}
 use Rattle.models.specs.declared.PredictOutcome.{PredictOutcome}
 use Rattle.run.specs.Fitted.{Fitted, Predicted, RowOutcome, row_query, longest, fitted, outcome}
 use Rattle.run.specs.Fitted.{Part, of_retention, of_mobility, model_of, fit_of_part, result_of}
-use Rattle.run.specs.declared.checks.ModelRoom.{ModelRoom}
-use Rattle.run.specs.declared.checks.Room.{Room}
-use Rattle.run.specs.declared.RunAnswer.{RunAnswer}
-use Rattle.run.specs.declared.RunAnswer.TheVariants.{Ran, Refused}
+use Rattle.run.specs.declared.Batch.{Batch}
+use Rattle.run.specs.declared.Ran.{Ran}
 
 -- what is read: the columns of the rows, the number of files, and the peptide table
 pub record Input : Type 0 where
@@ -55,24 +57,37 @@ pub record Slices : Type 0 where
   pub retention : ModelOutputs
   pub mobility : ModelOutputs
 
--- ---- as a function's parameters hold them
+-- the lengths of a model's outputs
+pub record ModelRoom : Type 0 where
+  pub beta : ℕ
+  pub predicted : ℕ
+  pub error : ℕ
 
--- in a `requires`
-abbrev pub input_at : (file peptide : Held ℕ) (label : Held ℤ) (q rt : Held Float) (charge : Held ℕ)
-    (mobility : Held Float) (files : ℕ) (letters offsets : Held ℕ) (masses logs : Held Float) → Input
-input_at file peptide label q rt charge mobility files letters offsets masses logs =
+-- the lengths of the slices
+pub record Room : Type 0 where
+  pub workspace : ℕ
+  pub records : FileRoom
+  pub aligned : ℕ
+  pub retention : ModelRoom
+  pub mobility : ModelRoom
+
+-- ---- as the program's structs hold them: `input_at b` in a `requires`, `input_at b.entry` in an `ensures`
+
+abbrev pub input_at : Batch → Input
+input_at b =
     record {
-      file = file.now;
-      peptide = peptide.now;
-      label = label.now;
-      q = q.now;
-      rt = rt.now;
-      charge = charge.now;
-      mobility = mobility.now;
-      files = files;
-      table = table_at letters offsets masses logs;
+      file = b.file.now;
+      peptide = b.peptide.now;
+      label = b.label.now;
+      q = b.q.now;
+      rt = b.rt.now;
+      charge = b.charge.now;
+      mobility = b.mobility.now;
+      files = b.files;
+      table = table_at b.table;
     }
 
+-- what is written, by its slices and structs, in a `requires`
 abbrev pub slices_at : (workspace : MutHeld Float) (records : FileColumns) (aligned : MutHeld Float)
     (retention mobility : ModelOutputs) → Slices
 slices_at workspace records aligned retention mobility =
@@ -84,20 +99,42 @@ slices_at workspace records aligned retention mobility =
       mobility = mobility;
     }
 
--- in an `ensures`: what is read as the call begins, and what is written as it begins and as it returns
-abbrev pub input_of : (file peptide : Slice ℕ) (label : Slice ℤ) (q rt : Slice Float) (charge : Slice ℕ)
-    (mobility : Slice Float) (files : ℕ) (letters offsets : Slice ℕ) (masses logs : Slice Float) → Input
-input_of file peptide label q rt charge mobility files letters offsets masses logs =
-    input_at
-    file.entry peptide.entry label.entry q.entry rt.entry charge.entry mobility.entry files
-    letters.entry offsets.entry masses.entry logs.entry
+-- as a function that only measures it holds it
+abbrev pub slices_held : (workspace : Held Float) (records : FileColumns) (aligned : Held Float)
+    (retention mobility : ModelOutputs) → Slices
+slices_held workspace records aligned retention mobility =
+    record {
+      workspace = workspace.now;
+      records = records;
+      aligned = aligned.now;
+      retention = retention;
+      mobility = mobility;
+    }
 
+-- in an `ensures`, as the call begins and as it returns
 abbrev pub slices_of : (workspace : MutSlice Float) (records : Change FileColumns) (aligned : MutSlice Float)
     (retention mobility : Change ModelOutputs) → Change Slices
 slices_of workspace records aligned retention mobility =
     change
     (slices_at workspace.entry records.entry aligned.entry retention.entry mobility.entry)
     (slices_at workspace.exit records.exit aligned.exit retention.exit mobility.exit)
+
+-- what is read, as the parameters of a C function hold it, in an `ensures`
+
+abbrev pub input_of : (file peptide : Slice ℕ) (label : Slice ℤ) (q rt : Slice Float) (charge : Slice ℕ)
+    (mobility : Slice Float) (files : ℕ) (letters offsets : Slice ℕ) (masses logs : Slice Float) → Input
+input_of file peptide label q rt charge mobility files letters offsets masses logs =
+    record {
+      file = file.entry.now;
+      peptide = peptide.entry.now;
+      label = label.entry.now;
+      q = q.entry.now;
+      rt = rt.entry.now;
+      charge = charge.entry.now;
+      mobility = mobility.entry.now;
+      files = files;
+      table = table_of letters.entry.now offsets.entry.now masses.entry.now logs.entry.now;
+    }
 
 -- ---- what is read
 
@@ -194,11 +231,11 @@ abbrev pub predict_outcome_of : Part → Input → PredictOutcome
 predict_outcome_of part i = record { fit = (fit_of_part part (fitted_by i)).outcome; inexact = inexact_of part i }
 
 -- what an accepted run answers
-abbrev pub ran_of : Input → RunAnswer
-ran_of i = Ran (predict_outcome_of of_retention i) (predict_outcome_of of_mobility i)
+abbrev pub ran_of : Input → Ran
+ran_of i = record { retention = predict_outcome_of of_retention i; mobility = predict_outcome_of of_mobility i }
 
-unfoldable pub answer_of : (status : ℕ) → Input → RunAnswer
-answer_of s i = if_accepted s (ran_of i) (Refused s)
+unfoldable pub answer_of : (status : ℕ) → Input → Result Ran Refusal
+answer_of s i = if_accepted s (Ok (ran_of i)) (Err (refusal_by s))
 
 -- what an accepted run gives: what each model's prediction tells
 pub record FitsTold : Type 0 where
@@ -210,9 +247,9 @@ fits_told retention mobility =
     record { retention = predict_outcome_told retention; mobility = predict_outcome_told mobility }
 
 -- what every case of an answer tells
-abbrev pub told_by : RunAnswer → Told FitsTold
-told_by (Ran retention mobility) = gives (fits_told retention mobility)
-told_by (Refused n) = only n
+abbrev pub told_by : Result Ran Refusal → Told FitsTold
+told_by (Ok ran) = gives (fits_told ran.retention ran.mobility)
+told_by (Err refusal) = only (number_of refusal)
 
 -- ---- the slices
 
@@ -251,7 +288,7 @@ filled i s =
     }
 
 -- an accepted call: its answer and every slice
-pub record Filled (i : Input) (s : Change Slices) (r : RunAnswer) : Type 0 where
+pub record Filled (i : Input) (s : Change Slices) (r : Ran) : Type 0 where
   pub answer : r ≡ ran_of i
   pub slices : s.exit ≡ filled i s.entry
 
@@ -260,7 +297,7 @@ unfoldable pub slices_after : Input → Slices → Slices
 slices_after i s = if_accepted (status i s) (filled i s) s
 
 -- The contract: the answer, what it tells, and every slice, each cell of it.
-pub record RunCall (i : Input) (s : Change Slices) (r : RunAnswer) : Type 0 where
+pub record RunCall (i : Input) (s : Change Slices) (r : Result Ran Refusal) : Type 0 where
   pub answer : r ≡ answer_of (status i s.entry) i
   pub told : told_by r
       ≡ told_for (status i s.entry)

@@ -1,7 +1,7 @@
 -- What a run works out: the fitted numbers from the file count, the peptide table, the longest times and the training
 -- rows alone, and a row's results from these and the row. Nothing that the program wrote is read: retention's target is
 -- worked out here. Definitions only.
-use Rattle.std.specs.Prelude.{List, map, ℕ, Float, length}
+use Rattle.std.specs.Prelude.{List, map, ℕ, Float, length, Ok, Err}
 use Rattle.std.proofs.Math.Option.{Option, none, some}
 use Rattle.feature.specs.Feature.{Row}
 use Rattle.peptide.specs.Table.{Table}
@@ -11,9 +11,7 @@ use Rattle.retention_alignment.specs.Alignments.{alignments, aligned}
 use Rattle.embedding.specs.Design.{order_of}
 use Rattle.embedding.specs.declared.Model.{Model}
 use Rattle.embedding.specs.declared.Model.TheVariants.{Retention, Mobility}
-use Rattle.regression.specs.Regression.{Sample, Fit, fit_of}
-use Rattle.regression.specs.declared.FitOutcome.{FitOutcome}
-use Rattle.regression.specs.declared.FitOutcome.TheVariants.{Solved, NoTrainingRows, NotSolved}
+use Rattle.regression.specs.Regression.{Sample, Fitting, Outcome, fit_of}
 use Rattle.model_fit.specs.Input.{Query, query_of}
 use Rattle.model_fit.specs.Samples.{sample_of}
 use Rattle.models.specs.Prediction.{prediction_of, error_of}
@@ -56,14 +54,14 @@ abbrev pub row_sample : Model → Table → List Alignment → Row → Sample
 row_sample model table records r = sample_of model table (row_query model r) (target model records r)
 
 -- the fit of a model to the training rows
-abbrev pub fit_of_rows : Model → Table → List Alignment → (training : List Row) → Fit
+abbrev pub fit_of_rows : Model → Table → List Alignment → (training : List Row) → Fitting
 fit_of_rows model table records training = fit_of (order_of model) (map (row_sample model table records) training)
 
 -- the record of each file, and for each model its coefficients, ridge, r2 and n, or its failure
 pub record Fitted : Type 0 where
   pub records : List Alignment
-  pub retention : Fit
-  pub mobility : Fit
+  pub retention : Fitting
+  pub mobility : Fitting
 
 unfoldable pub file_records : (files : ℕ) → Table → (max_rts : List ℕ) → (training : List Row)
     → List Alignment
@@ -78,7 +76,7 @@ fitted files table max_rts training =
       mobility = fit_of_rows Mobility table records training;
     }
 
-abbrev pub fit_of_part : Part → Fitted → Fit
+abbrev pub fit_of_part : Part → Fitted → Fitting
 fit_of_part of_retention f = f.retention
 fit_of_part of_mobility f = f.mobility
 
@@ -89,10 +87,9 @@ pub record Predicted : Type 0 where
   pub error : Float
 
 -- where the model fits
-abbrev pub where_fitted : FitOutcome → Predicted → Option Predicted
-where_fitted (Solved ridge r2 n) p = some p
-where_fitted NoTrainingRows p = none
-where_fitted NotSolved p = none
+abbrev pub where_fitted : Outcome → Predicted → Option Predicted
+where_fitted (Ok fit) p = some p
+where_fitted (Err u) p = none
 
 -- by coefficients, and against a row's target
 abbrev pub predicted_by : Model → Table → (beta : List Float) → Query → (y : Float) → Predicted

@@ -2,231 +2,187 @@
 // fit, and the predictions and errors of each model that fits.
 #![tactic(auto)]
 
-ghost use Rattle.std.specs.Prelude.{◌≡◌};
-ghost use Rattle.status.specs.Status.{accepted};
-ghost use Rattle.rt_matrix.specs.Columns.{file_columns_at, file_columns_of};
-ghost use Rattle.models.specs.Call.{outputs_at, outputs_of};
-ghost use Rattle.run.specs.Call.{input_at, input_of, slices_at, slices_of, status, Filled, RunCall};
+ghost use Rattle.std.specs.Prelude.{◌≡◌, true};
+ghost use Rattle.embedding.specs.declared.Model.{Model};
+ghost use Rattle.model_fit.specs.Shared.{Checked};
+ghost use Rattle.rt_matrix.specs.Columns.{changed_columns, SameSlices};
+ghost use Rattle.retention_alignment.specs.Call.{held_input};
+ghost use Rattle.models.specs.Call.{
+  retention_at,
+  mobility_at,
+  outputs_of,
+  outputs_change,
+  predict_at,
+  predict_room_in,
+  predict_slices,
+  PredictedWithin,
+};
+ghost use Rattle.run.specs.Call.{input_at, slices_of, RunCall};
+ghost use Rattle.run.specs.Parts.{align_input, retention_input, mobility_input};
 
-use crate::checks::{ModelRoom, Room, check};
+use model_fit::{Input, Rows};
 use models::{PredictOutcome, mobility_model, retention_model};
-use retention_alignment::align_accepted;
-use rt_matrix::FileRoom;
+use retention_alignment::{Observations, align_accepted};
+use status::Refusal;
 
 mod checks; // the checks, in document 01's order
 
-// What a run answers: the outcome of each model's prediction, or the status of the check that refused the call.
+pub use model_fit::Table;
+pub use models::Outputs;
+pub use retention_alignment::FileColumns;
+
+// What a run reads: the columns of the rows, the number of files, and the peptide table.
 #[derive(Clone, Copy)]
-pub enum RunAnswer {
-    Ran {
-        retention: PredictOutcome,
-        mobility: PredictOutcome,
-    },
-    Refused(u8),
+pub struct Batch<'a> {
+    pub file: &'a [u32],
+    pub peptide: &'a [u32],
+    pub label: &'a [i32],
+    pub q: &'a [f32],
+    pub rt: &'a [f32],
+    pub charge: &'a [u8],
+    pub mobility: &'a [f32],
+    pub files: usize,
+    pub table: Table<'a>,
 }
 
-// The work of an accepted run: its parts behind their checks, so that each column is checked once.
-fn run_accepted(
-    file: &[u32],
-    peptide: &[u32],
-    label: &[i32],
-    q: &[f32],
-    rt: &[f32],
-    charge: &[u8],
-    mobility: &[f32],
-    files: usize,
-    letters: &[u8],
-    offsets: &[u32],
-    masses: &[f32],
-    logs: &[f64],
+impl<'a> Batch<'a> {
+    // What the alignment reads: of the peptide table only how many peptides it has.
+    fn observations(self) -> Observations<'a>
+        ensures { held_input result ≡ align_input (input_at self.entry) }
+    {
+        Observations {
+            file: self.file,
+            peptide: self.peptide,
+            label: self.label,
+            q: self.q,
+            rt: self.rt,
+            files: self.files,
+            peptides: self.table.masses.len(),
+        }
+    }
+
+    // What a model is fitted to: what it observes of each row, and the peptide table.
+    fn observing(self, observed: &'a [f32]) -> Input<'a>
+        ensures retention { retention_at result ≡ retention_input (input_at self.entry) observed.entry.now }
+        ensures mobility { observed.entry.now ≡ self.entry.mobility.now
+            → mobility_at result ≡ mobility_input (input_at self.entry) }
+    {
+        let rows = Rows {
+            peptide: self.peptide,
+            label: self.label,
+            q: self.q,
+            charge: self.charge,
+            observed,
+        };
+        Input {
+            rows,
+            table: self.table,
+        }
+    }
+}
+
+// What a run answers: the outcome of each model's prediction.
+#[derive(Clone, Copy)]
+pub struct Ran {
+    pub retention: PredictOutcome,
+    pub mobility: PredictOutcome,
+}
+
+// Retention's prediction behind its checks. (Its slices come one by one: an `Outputs` that is passed on whole loses what
+// its slices hold, and two that are made in one function the borrow checker has no rule for.)
+fn predict_retention(
+    input: Input<'_>,
     workspace: &mut [f64],
-    max_rt: &mut [f32],
-    slope: &mut [f32],
-    intercept: &mut [f32],
-    used: &mut [u32],
-    max_rt_exact: &mut [bool],
-    slope_exact: &mut [bool],
-    intercept_exact: &mut [bool],
-    aligned: &mut [f32],
-    retention_beta: &mut [f64],
-    retention_predicted: &mut [f32],
-    retention_error: &mut [f32],
-    mobility_beta: &mut [f64],
-    mobility_predicted: &mut [f32],
-    mobility_error: &mut [f32],
-) -> RunAnswer
-    requires { status
-        (input_at file peptide label q rt charge mobility files letters offsets masses logs)
-        (slices_at workspace
-        (file_columns_at max_rt slope intercept used max_rt_exact slope_exact intercept_exact)
-        aligned
-        (outputs_at retention_beta retention_predicted retention_error)
-        (outputs_at mobility_beta mobility_predicted mobility_error))
-        ≡ accepted }
-    ensures { Filled
-        (input_of file peptide label q rt charge mobility files letters offsets masses logs)
-        (slices_of workspace
-        (file_columns_of max_rt slope intercept used max_rt_exact slope_exact intercept_exact)
-        aligned
-        (outputs_of retention_beta retention_predicted retention_error)
-        (outputs_of mobility_beta mobility_predicted mobility_error))
+    beta: &mut [f64],
+    predicted: &mut [f32],
+    error: &mut [f32],
+) -> PredictOutcome
+    requires checked { Checked (retention_at input) }
+    requires long { predict_room_in Model.Retention
+        (retention_at input)
+        (predict_at workspace beta predicted error)
+        ≡ true }
+    ensures { PredictedWithin Model.Retention
+        (retention_at input.entry)
+        (predict_slices workspace (outputs_of beta predicted error))
         result }
 {
-    let rows = file.len();
-    let peptides = masses.len();
-    align_accepted(
-        file,
-        peptide,
-        label,
-        q,
-        rt,
-        files,
-        peptides,
-        workspace,
-        max_rt,
-        slope,
-        intercept,
-        used,
-        max_rt_exact,
-        slope_exact,
-        intercept_exact,
-        aligned,
-    );
-    let retention = retention_model::predict_accepted(
-        peptide,
-        label,
-        q,
-        &aligned[..rows],
-        letters,
-        offsets,
-        masses,
-        logs,
-        workspace,
-        retention_beta,
-        retention_predicted,
-        retention_error,
-    );
-    let mobility = mobility_model::predict_accepted(
-        peptide,
-        label,
-        q,
-        charge,
-        mobility,
-        letters,
-        offsets,
-        masses,
-        workspace,
-        mobility_beta,
-        mobility_predicted,
-        mobility_error,
-    );
-    RunAnswer::Ran {
-        retention,
-        mobility,
-    }
+    let outputs = Outputs {
+        beta,
+        predicted,
+        error,
+    };
+    retention_model::predict_accepted(input, workspace, outputs)
+}
+
+// Mobility's: a function of its own, since each calls its own model's, under that model's contract.
+fn predict_mobility(
+    input: Input<'_>,
+    workspace: &mut [f64],
+    beta: &mut [f64],
+    predicted: &mut [f32],
+    error: &mut [f32],
+) -> PredictOutcome
+    requires checked { Checked (mobility_at input) }
+    requires long { predict_room_in Model.Mobility
+        (mobility_at input)
+        (predict_at workspace beta predicted error)
+        ≡ true }
+    ensures { PredictedWithin Model.Mobility
+        (mobility_at input.entry)
+        (predict_slices workspace (outputs_of beta predicted error))
+        result }
+{
+    let outputs = Outputs {
+        beta,
+        predicted,
+        error,
+    };
+    mobility_model::predict_accepted(input, workspace, outputs)
 }
 
 // Runs a batch. Of the workspace it needs the larger of peptides × files and 15,250 cells, of each field of the files'
 // records one for each file, of aligned, of the predictions and of the errors one for each row, and 69 and 100
 // coefficients. What is longer keeps its rest, a refused call leaves every slice as it was, and the outputs of a
-// model that does not fit keep what they held.
+// model that does not fit keep what they held. Behind the one check the parts run without theirs. (What it writes is
+// five parameters: the borrow checker has no rule for a struct that holds structs of `&mut` slices.)
 pub fn run(
-    file: &[u32],
-    peptide: &[u32],
-    label: &[i32],
-    q: &[f32],
-    rt: &[f32],
-    charge: &[u8],
-    mobility: &[f32],
-    files: usize,
-    letters: &[u8],
-    offsets: &[u32],
-    masses: &[f32],
-    logs: &[f64],
+    batch: Batch<'_>,
     workspace: &mut [f64],
-    max_rt: &mut [f32],
-    slope: &mut [f32],
-    intercept: &mut [f32],
-    used: &mut [u32],
-    max_rt_exact: &mut [bool],
-    slope_exact: &mut [bool],
-    intercept_exact: &mut [bool],
+    records: &mut FileColumns<'_>,
     aligned: &mut [f32],
-    retention_beta: &mut [f64],
-    retention_predicted: &mut [f32],
-    retention_error: &mut [f32],
-    mobility_beta: &mut [f64],
-    mobility_predicted: &mut [f32],
-    mobility_error: &mut [f32],
-) -> RunAnswer
-    ensures { RunCall
-        (input_of file peptide label q rt charge mobility files letters offsets masses logs)
+    retention: Outputs<'_>,
+    mobility: Outputs<'_>,
+) -> Result<Ran, Refusal>
+    ensures same { SameSlices records }
+    ensures called { RunCall
+        (input_at batch.entry)
         (slices_of workspace
-        (file_columns_of max_rt slope intercept used max_rt_exact slope_exact intercept_exact)
+        (changed_columns records)
         aligned
-        (outputs_of retention_beta retention_predicted retention_error)
-        (outputs_of mobility_beta mobility_predicted mobility_error))
+        (outputs_change retention.entry retention.exit)
+        (outputs_change mobility.entry mobility.exit))
         result }
 {
-    let records = FileRoom {
-        max_rt: max_rt.len(),
-        slope: slope.len(),
-        intercept: intercept.len(),
-        used: used.len(),
-        max_rt_exact: max_rt_exact.len(),
-        slope_exact: slope_exact.len(),
-        intercept_exact: intercept_exact.len(),
-    };
-    let retention = ModelRoom {
-        beta: retention_beta.len(),
-        predicted: retention_predicted.len(),
-        error: retention_error.len(),
-    };
-    let mobility_room = ModelRoom {
-        beta: mobility_beta.len(),
-        predicted: mobility_predicted.len(),
-        error: mobility_error.len(),
-    };
-    let room = Room {
-        workspace: workspace.len(),
-        records,
-        aligned: aligned.len(),
+    checks::check(batch, workspace, records, aligned, &retention, &mobility)?;
+    align_accepted(batch.observations(), workspace, records, aligned);
+    let times = &aligned[..batch.file.len()];
+    let Outputs {
+        beta,
+        predicted,
+        error,
+    } = retention;
+    let input = batch.observing(times);
+    let retention = predict_retention(input, workspace, beta, predicted, error);
+    let Outputs {
+        beta,
+        predicted,
+        error,
+    } = mobility;
+    let input = batch.observing(batch.mobility);
+    let mobility = predict_mobility(input, workspace, beta, predicted, error);
+    Ok(Ran {
         retention,
-        mobility: mobility_room,
-    };
-    let status = check(
-        file, peptide, label, q, rt, charge, mobility, files, letters, offsets, masses, logs, room,
-    );
-    if status != status::ACCEPTED {
-        return RunAnswer::Refused(status);
-    }
-    run_accepted(
-        file,
-        peptide,
-        label,
-        q,
-        rt,
-        charge,
         mobility,
-        files,
-        letters,
-        offsets,
-        masses,
-        logs,
-        workspace,
-        max_rt,
-        slope,
-        intercept,
-        used,
-        max_rt_exact,
-        slope_exact,
-        intercept_exact,
-        aligned,
-        retention_beta,
-        retention_predicted,
-        retention_error,
-        mobility_beta,
-        mobility_predicted,
-        mobility_error,
-    )
+    })
 }

@@ -1,5 +1,5 @@
 -- Laws of the shared checks: what a test that passes says of each element, and how a loop goes through it.
-use mathlib.Core.Path.{◌≡◌, refl}
+use mathlib.Core.Path.{◌≡◌, refl, ap}
 use mathlib.Core.Bool.{Bool, true, false, ◌&&◌}
 use mathlib.Core.List.{List, [], ◌∷◌}
 use Prim.Native.Nat.{ℕ, zero, suc, ◌*◌, ◌≤◌, ◌<◌}
@@ -9,6 +9,7 @@ use lib.Dec.{eqb, leb, ltb}
 use lib.ListN.{length, get_or, take, drop}
 use lib.Seq.{drop-cons}
 use borrow.Author.Tests.{ltb-true, leb-true, eqb-true}
+use Rattle.std.specs.List.{list_all}
 use Rattle.status.specs.Checks.{every, all_below, lengths_agree}
 use Rattle.status.specs.Limits.{
   within_limits,
@@ -28,6 +29,12 @@ and_true true b e = (refl, e)
 and_true false b e = (e, cc)
 
 module _ {A : Type 0} (p : A → Bool) where
+  -- it is the library's test of all elements
+  pub every_is : (xs : List A) → list_all p xs ≡ every p xs
+  unfolding every
+  every_is [] = refl
+  every_is (x ∷ xs) = ap (λ (b : Bool). p x && b) (every_is xs)
+
   -- a loop's step: the element at i and the rest
   pub every_step : (i : ℕ) (xs : List A) (d : A) → i < length xs
       → every p (drop i xs) ≡ p (get_or xs i d) && every p (drop (suc i) xs)

@@ -1,5 +1,16 @@
 -- The statuses of document 01's table (the paper's refusal numbers), in the order in which they are checked.
-use Rattle.std.specs.Prelude.{ℕ, Bool, cond, List, [], ◌∷◌}
+use Rattle.std.specs.Prelude.{ℕ, Bool, cond, eqb, ⊤, List, [], ◌∷◌, Result, Ok, Err}
+use Rattle.status.specs.declared.Refusal.{Refusal}
+use Rattle.status.specs.declared.Refusal.TheVariants.{
+  BadLengths,
+  PastLimit,
+  TooShort,
+  BadFile,
+  BadPeptide,
+  BadLetter,
+  BadOffsets,
+  Malformed,
+}
 
 -- accepted
 abbrev pub accepted : ℕ
@@ -49,3 +60,35 @@ not_solved = 9
 abbrev pub first_failing : List (ℕ × Bool) → ℕ
 first_failing [] = accepted
 first_failing (check ∷ checks) = cond check.1 (first_failing checks) check.0
+
+-- ---- a refusal and its number
+
+abbrev pub number_of : Refusal → ℕ
+number_of BadLengths = bad_lengths
+number_of PastLimit = past_limit
+number_of TooShort = too_short
+number_of BadFile = bad_file
+number_of BadPeptide = bad_peptide
+number_of BadLetter = bad_letter
+number_of BadOffsets = bad_offsets
+number_of Malformed = malformed
+
+-- the refusal with a number of the table
+abbrev pub refusal_by : ℕ → Refusal
+refusal_by n =
+    cond (eqb n bad_lengths) BadLengths
+    (cond (eqb n past_limit) PastLimit
+    (cond (eqb n too_short) TooShort
+    (cond (eqb n bad_file) BadFile
+    (cond (eqb n bad_peptide) BadPeptide
+    (cond (eqb n bad_letter) BadLetter
+    (cond (eqb n bad_offsets) BadOffsets Malformed))))))
+
+-- the status of what a check answers
+abbrev pub status_of : Result ⊤ Refusal → ℕ
+status_of (Ok _) = accepted
+status_of (Err r) = number_of r
+
+-- what checks with this status answer
+abbrev pub checked : ℕ → Result ⊤ Refusal
+checked status = cond (eqb status accepted) (Ok tt) (Err (refusal_by status))

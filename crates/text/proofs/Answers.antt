@@ -1,220 +1,136 @@
--- What an answer of a function tells of what the definitions give.
-use mathlib.Core.Path.{◌≡◌, refl, sym, ap, ◌∙◌}
-use mathlib.Core.Bool.{true, false}
-use mathlib.Core.List.{List, [], ◌∷◌, ◌++◌}
-use mathlib.Core.Option.{Option, none, some}
-use Prim.Native.Nat.{ℕ, suc, ◌+◌, ◌-◌, ◌≤◌, ◌<◌}
-use native.Mathlib.Nat.{add-zero}
-use native.Mathlib.Omega.{arith}
-use lib.Dec.{eqb}
-use lib.ListN.{length, take, drop, length-drop, length-append}
-use lib.Seq.{take-append_seam, take_at, drop-drop, drop-append-le}
-use borrow.Author.Tests.{eq-eqb, ne_eqb}
-use Rattle.text.specs.declared.line.LineEnd.TheVariants as E
-use Rattle.text.specs.declared.line.ValueAt.TheVariants as VA
-use Rattle.text.specs.Line.{
-  longer_by,
-  line_of,
-  starts_with,
-  keyed,
-  in_line,
-  line_read,
-  first_line,
-  hex_number,
-  read_hex_digits,
-}
-use Rattle.text.specs.Reader.{value, malformed}
-use lib.IntN.{ℤ}
-use Rattle.float.specs.Hex.{read_hex}
-use Rattle.float.specs.declared.hex.HexRead.TheVariants as H
-use Rattle.text.specs.declared.decimal.DecimalRead.TheVariants as D
-use Rattle.text.specs.declared.decimal.SignedRead.TheVariants as S
-use Rattle.text.specs.Decimal.{read_decimal}
-use Rattle.text.specs.Answer.{decimal_read, signed_read, line_end, value_at}
-use Rattle.text.proofs.Cases.{and_false, by_bool}
-use Rattle.text.proofs.Lines.{line_is, starts_is}
-use Rattle.text.proofs.Numbers.{hex_digits}
-use Rattle.text.proofs.Decimals.{decimal_sound}
+-- What the functions that read answer, for what the definitions give.
+use Rattle.std.proofs.Common.{◌≡◌, ℕ, suc, ◌+◌, ◌-◌, ◌≤◌, ◌<◌, Bool, List, [], ◌∷◌, Option, Some, None, length, take, drop, eqb, nat_eq, ◌==◌, true, false, refl, sym, ap, ◌∙◌, arith, add-zero}
+use lib.Seq.{take-append_seam}
+use lib.ListN.{length-drop, length-append}
+use Rattle.std.specs.List.{position, position_from}
+use Rattle.std.specs.Option.{option_map}
+use Rattle.std.specs.Cmp.Lexicographic.{pointwise}
+use Rattle.std.proofs.lemmas.Iterator.Adapters.{position_from-zero}
+use Rattle.text.specs.Line.{longer_by, line_of, starts_with, keyed, in_line, line_read, first_line}
+use Rattle.text.specs.declared.line.Line.{Line}
+use Rattle.text.specs.Answer.{line_end, line_at}
+use Rattle.text.proofs.Cases.{by_bool}
+use Rattle.text.proofs.Lines.{line_is}
 
--- ---- where a line ends
-module _ (i : ℕ) (c : ℕ) (s : List ℕ) where
-  pub end_here : c ≡ 10 → line_end i (line_of (c ∷ s)) ≡ E.At i
-  unfolding line_of
-  end_here h = simp (eq-eqb c 10 h, add-zero i)
+-- ---- where a line ends: at the first LF
+abbrev pub is_lf : ℕ → Bool
+is_lf c = c == 10
 
-  pub end_more : (c ≡ 10 → ⊥) → line_end i (line_of (c ∷ s)) ≡ line_end (i + 1) (line_of s)
-  unfolding line_of
-  end_more h = simp (ne_eqb c 10 h) (go (line_of s))
-    where
-      go : (o : Option (List ℕ)) → line_end i (longer_by c o) ≡ line_end (i + 1) o
-      go none = refl
-      go (some l) = let e : i + suc (length l) ≡ i + 1 + length l = omega arith in ap E.At e
+longer_end : (c i : ℕ) (o : Option (List ℕ)) → line_end i (longer_by c o) ≡ line_end (i + 1) o
+longer_end c i None = refl
+longer_end c i (Some l) = let e : i + suc (length l) ≡ i + 1 + length l = omega arith in ap Some e
 
-pub end_none : (at : ℕ) (o : Option (List ℕ)) → E.Unclosed ≡ line_end at o → o ≡ none
-end_none at none h = refl
-end_none at (some l) h = cc
+end_from : (i : ℕ) (s : List ℕ) → line_end i (line_of s) ≡ position_from is_lf i s
+unfolding line_of
+end_from i [] = refl
+end_from i (c ∷ s) =
+    by_bool (eqb c 10) (λ t. simp (t, add-zero i))
+    (λ t. simp t (longer_end c i (line_of s) ∙ end_from (i + 1) s))
 
-pub end_some : (at e : ℕ) (o : Option (List ℕ)) → E.At e ≡ line_end at o
-    → (l : List ℕ) × (o ≡ some l) × (e ≡ at + length l)
-end_some at e none h = let z : ◌≡◌ {A = ℕ} 0 1 = cc in absurd (omega arith)
-end_some at e (some l) h = (l, refl, (cc))
+position_more : (at i : ℕ) (s : List ℕ)
+    → position_from is_lf (at + i) s ≡ option_map (λ n. at + n) (position_from is_lf i s)
+position_more at i [] = refl
+position_more at i (c ∷ s) =
+    let e : at + i + 1 ≡ at + (i + 1) = omega arith in
+    by_bool (eqb c 10) (λ t. simp t)
+    (λ t. simp t (ap (λ k. position_from is_lf k s) e ∙ position_more at (i + 1) s))
 
--- the line that begins at a place, as a part of the text
-module _ (text : List ℕ) (at : ℕ) (l : List ℕ) (h : line_of (drop at text) ≡ some l) where
-  pub line_within : at + length l < length text
-  line_within =
-      let e = ap length (line_is (drop at text) l h) in
-      omega (arith, simp (length-drop, length-append) at e)
+pub end_position : (at : ℕ) (s : List ℕ) → line_end at (line_of s) ≡ option_map (λ n. at + n) (position is_lf s)
+end_position at s =
+    end_from at s
+    ∙ ap (λ k. position_from is_lf k s) (sym (add-zero at))
+    ∙ position_more at 0 s
+    ∙ ap (option_map (λ n. at + n)) (sym (position_from-zero is_lf s))
 
-  pub line_part : take (length l) (drop at text) ≡ l
-  line_part =
-      ap (take (length l)) (line_is (drop at text) l h)
-      ∙ take-append_seam l (10 ∷ drop (suc (length l)) (drop at text))
+end_some : (at e : ℕ) (o : Option (List ℕ)) → Some e ≡ line_end at o → (l : List ℕ) × (o ≡ Some l) × (e ≡ at + length l)
+end_some at e None h = let z : ◌≡◌ {A = ℕ} 0 1 = cc in absurd (omega arith)
+end_some at e (Some l) h = (l, refl, (cc))
+
+end_none : (at : ℕ) (o : Option (List ℕ)) → None ≡ line_end at o → o ≡ None
+end_none at None h = refl
+end_none at (Some l) h = cc
 
 -- ---- whether a text begins with a key
-pub starts_short : (key s : List ℕ) → length s < length key → starts_with key s ≡ false
+pub starts_pointwise : (key s : List ℕ) → pointwise nat_eq (take (length key) s) key ≡ starts_with key s
 unfolding starts_with
-starts_short [] s h = absurd (omega arith)
-starts_short (k ∷ key) [] h = refl
-starts_short (k ∷ key) (c ∷ s) h = rw (starts_short key s (omega arith)) (and_false (eqb c k))
+starts_pointwise [] s = refl
+starts_pointwise (k ∷ key) [] = refl
+starts_pointwise (k ∷ key) (c ∷ s) = simp (starts_pointwise key s)
 
-pub starts_differ : (k c : ℕ) (key s : List ℕ) → (c ≡ k → ⊥) → starts_with (k ∷ key) (c ∷ s) ≡ false
-unfolding starts_with
-starts_differ k c key s h = simp (ne_eqb c k h)
-
-pub starts_same : (k c : ℕ) (key s : List ℕ) → c ≡ k → starts_with (k ∷ key) (c ∷ s) ≡ starts_with key s
-unfolding starts_with
-starts_same k c key s h = simp (eq-eqb c k h)
-
-pub starts_length : (key s : List ℕ) → starts_with key s ≡ true → length key ≤ length s
-starts_length key s h = let e = ap length (starts_is key s h) in omega (arith, simp length-append at e)
-
--- ---- the value in the line that begins at a place and ends at e
-module _ (text : List ℕ) (at e : ℕ) (h : E.At e ≡ line_end at (line_of (drop at text))) where
-  from_end : (l : List ℕ) × (line_of (drop at text) ≡ some l) × (e ≡ at + length l)
-  from_end = end_some at e (line_of (drop at text)) h
-
-  pub end_le : at ≤ e
-  end_le = omega (arith, from_end.2)
-
-  pub end_within : e < length text
-  end_within = omega (arith, from_end.2, line_within text at from_end.0 from_end.1)
-
-  end_part : take (e - at) (drop at text) ≡ from_end.0
-  end_part =
-      let k : e - at ≡ length from_end.0 = omega (arith, from_end.2) in
-      ap (λ (n : ℕ). take n (drop at text)) k ∙ line_part text at from_end.0 from_end.1
-
-  module _ (key : List ℕ) where
-    pub value_found : starts_with key (take (e - at) (drop at text)) ≡ true
-        → value_at at key (line_of (drop at text)) ≡ VA.Found (at + length key) e
-    value_found s =
-        ap (value_at at key) from_end.1
-        ∙ simp (ap (starts_with key) (sym end_part) ∙ s) (ap (VA.Found (at + length key)) (sym from_end.2))
-
-    pub value_none : starts_with key (take (e - at) (drop at text)) ≡ false
-        → value_at at key (line_of (drop at text)) ≡ VA.Malformed
-    value_none s = ap (value_at at key) from_end.1 ∙ simp (ap (starts_with key) (sym end_part) ∙ s)
-
-    pub key_le : starts_with key (take (e - at) (drop at text)) ≡ true → at + length key ≤ e
-    key_le s = omega (arith, starts_length key from_end.0 (ap (starts_with key) (sym end_part) ∙ s), from_end.2)
-
--- ---- what is read from the line whose value stands from f to e
-module _ {A : Type 0} (read : List ℕ → Option A) (text : List ℕ) (at : ℕ) (key : List ℕ) where
-  value_cases : (o : Option (List ℕ)) → VA.Malformed ≡ value_at at key o
-      → in_line (keyed key read) o ≡ malformed
-  unfolding keyed
-  value_cases none h = refl
-  value_cases (some l) h =
-      by_bool (starts_with key l) (λ t. let z : ◌≡◌ {A = ℕ} 0 1 = cc in absurd (omega arith)) (λ t. simp t)
-
-  pub line_malformed : VA.Malformed ≡ value_at at key (line_of (drop at text))
-      → first_line (keyed key read) (drop at text) ≡ malformed
+-- ---- what stands behind the key in the line that begins at a place
+module _ (text : List ℕ) (at : ℕ) (key : List ℕ) where
+  pub value_none : None ≡ line_end at (line_of (drop at text))
+      → line_at at (first_line (keyed key Some) (drop at text)) ≡ None
   unfolding first_line
-  line_malformed h = value_cases (line_of (drop at text)) h
+  value_none h = ap (λ o. line_at at (in_line (keyed key Some) o)) (end_none at (line_of (drop at text)) h)
 
-module _ (text : List ℕ) (at : ℕ) (key : List ℕ) (f e : ℕ)
-    (h : VA.Found f e ≡ value_at at key (line_of (drop at text))) where
-  value_is : (o : Option (List ℕ)) → VA.Found f e ≡ value_at at key o
-      → (l : List ℕ) × (o ≡ some l) × (starts_with key l ≡ true) × (f ≡ at + length key) ×
-      (e ≡ at + length l)
-  value_is none g = let z : ◌≡◌ {A = ℕ} 0 1 = cc in absurd (omega arith)
-  value_is (some l) g =
-      by_bool (starts_with key l) (λ t. (l, refl, t, (cc), (cc)))
-      (λ t. let z : ◌≡◌ {A = ℕ} 0 1 = cc in absurd (omega arith))
+  module _ (e : ℕ) (h : Some e ≡ line_end at (line_of (drop at text))) where
+    line_l : (l : List ℕ) × (line_of (drop at text) ≡ Some l) × (e ≡ at + length l)
+    line_l = end_some at e (line_of (drop at text)) h
 
-  found : (l : List ℕ) × (line_of (drop at text) ≡ some l) × (starts_with key l ≡ true) × (f ≡ at + length key) × (e ≡ at + length l)
-  found = value_is (line_of (drop at text)) h
+    pub end_le : at ≤ e
+    end_le = omega (arith, line_l.2)
 
-  pub found_le : f ≤ e
-  found_le = omega (arith, found.3, found.4, starts_length key found.0 found.2)
+    pub end_within : e < length text
+    end_within =
+        let l = line_l.0 in
+        let e = ap length (line_is (drop at text) l line_l.1) in
+        omega (arith, simp (length-drop, length-append) at e, line_l.2)
 
-  pub found_at : at ≤ e
-  found_at = omega (arith, found.4)
+    part_is : take (e - at) (drop at text) ≡ line_l.0
+    part_is =
+        let l = line_l.0 in
+        let k : e - at ≡ length l = omega (arith, line_l.2) in
+        ap (λ (n : ℕ). take n (drop at text)) k
+        ∙ ap (take (length l)) (line_is (drop at text) l line_l.1)
+        ∙ take-append_seam l (10 ∷ drop (suc (length l)) (drop at text))
 
-  pub found_within : e < length text
-  found_within = omega (arith, found.4, line_within text at found.0 found.1)
+    starts_is_key : (b : Bool) → pointwise nat_eq (take (length key) (take (e - at) (drop at text))) key ≡ b
+        → starts_with key line_l.0 ≡ b
+    starts_is_key b t =
+        sym (starts_pointwise key line_l.0)
+        ∙ ap (λ s. pointwise nat_eq (take (length key) s) key) (sym part_is)
+        ∙ t
 
-  found_part : take (e - f) (drop f text) ≡ drop (length key) found.0
-  found_part =
-      let l = found.0 in
-      let k = length key in
-      let r : List ℕ = 10 ∷ drop (suc (length l)) (drop at text) in
-      let d : drop f text ≡ drop k l ++ r =
-      ap (λ (n : ℕ). drop n text) found.3
-      ∙ sym (drop-drop k at text)
-      ∙ ap (drop k) (line_is (drop at text) l found.1)
-      ∙ drop-append-le k l r (starts_length key l found.2) in
-      ap (take (e - f)) d ∙ take_at (drop k l) r (e - f) (rw length-drop (omega (arith, found.3, found.4)))
+    pub value_other : pointwise nat_eq (take (length key) (take (e - at) (drop at text))) key ≡ false
+        → line_at at (first_line (keyed key Some) (drop at text)) ≡ None
+    unfolding first_line keyed
+    value_other t =
+        ap (λ o. line_at at (in_line (keyed key Some) o)) line_l.1
+        ∙ simp (starts_is_key false t)
 
-  pub line_found : {A : Type 0} (read : List ℕ → Option A)
-      → first_line (keyed key read) (drop at text) ≡ line_read (e - at) (read (take (e - f) (drop f text)))
-  unfolding first_line keyed
-  line_found read =
-      let k : length found.0 ≡ e - at = omega (arith, found.4) in
-      ap (in_line (keyed key read)) found.1 ∙ simp (found.2, found_part, k)
+    pub value_some : pointwise nat_eq (take (length key) (take (e - at) (drop at text))) key ≡ true
+        → line_at at (first_line (keyed key Some) (drop at text))
+        ≡ Some (record { value = drop (length key) (take (e - at) (drop at text)); next = e + 1 })
+    unfolding first_line keyed
+    value_some t =
+        let n : at + (length line_l.0 + 1) ≡ e + 1 = omega (arith, line_l.2) in
+        ap (λ o. line_at at (in_line (keyed key Some) o)) line_l.1
+        ∙ simp (starts_is_key true t, n, part_is)
 
-  -- the place after the line
-  pub next_is : at + (e - at + 1) ≡ e + 1
-  next_is = omega (arith, found_at)
+-- ---- what is made of what stands behind the key
+abbrev pub with_next : {A : Type 0} → ℕ → Option A → Option (Line A)
+with_next n None = None
+with_next n (Some a) = Some (record { value = a; next = n })
 
-  module _ {A : Type 0} (read : List ℕ → Option A) where
-    pub line_none : read (take (e - f) (drop f text)) ≡ none
-        → first_line (keyed key read) (drop at text) ≡ malformed
-    line_none h = line_found read ∙ ap (line_read (e - at)) h
+abbrev pub read_on : {A : Type 0} → (List ℕ → Option A) → Option (Line (List ℕ)) → Option (Line A)
+read_on reading None = None
+read_on reading (Some l) = with_next l.next (reading l.value)
 
-    pub line_some : (a : A) → read (take (e - f) (drop f text)) ≡ some a
-        → first_line (keyed key read) (drop at text) ≡ value a (e - at + 1)
-    line_some a h = line_found read ∙ ap (line_read (e - at)) h
+module _ {A : Type 0} (reading : List ℕ → Option A) (at : ℕ) (key : List ℕ) where
+  line_on : (n : ℕ) (o : Option A) → line_at at (line_read n o) ≡ with_next (at + (n + 1)) o
+  line_on n None = refl
+  line_on n (Some a) = refl
 
--- ---- numbers
-pub decimal_none : (o : Option ℕ) → D.Malformed ≡ decimal_read o → o ≡ none
-decimal_none none h = refl
-decimal_none (some n) h = cc
+  on_line : (o : Option (List ℕ))
+      → line_at at (in_line (keyed key reading) o) ≡ read_on reading (line_at at (in_line (keyed key Some) o))
+  unfolding keyed
+  on_line None = refl
+  on_line (Some l) =
+      by_bool (starts_with key l) (λ t. simp t (line_on (length l) (reading (drop (length key) l)))) (λ t. simp t)
 
-pub decimal_some : (o : Option ℕ) (n : ℕ) → D.Value n ≡ decimal_read o → o ≡ some n
-decimal_some none n h = cc
-decimal_some (some m) n h = cc
-
-pub decimal_max : (max n : ℕ) (s : List ℕ) → D.Value n ≡ decimal_read (read_decimal max s) → n ≤ max
-decimal_max max n s h = (decimal_sound max n s (decimal_some (read_decimal max s) n h)).1
-
-pub signed_none : (o : Option ℤ) → S.Malformed ≡ signed_read o → o ≡ none
-signed_none none h = refl
-signed_none (some n) h = cc
-
-pub signed_some : (o : Option ℤ) (z : ℤ) → S.Value z ≡ signed_read o → o ≡ some z
-signed_some none z h = cc
-signed_some (some y) z h = cc
-
--- exactly k hex digits
-module _ (k : ℕ) (s : List ℕ) where
-  pub digits_other : (length s ≡ k → ⊥) → read_hex_digits k s ≡ none
-  unfolding read_hex_digits
-  digits_other h = simp (ne_eqb (length s) k h)
-
-  pub digits_none : length s ≡ k → H.Malformed ≡ read_hex s → read_hex_digits k s ≡ none
-  digits_none h m = hex_digits k s h ∙ ap hex_number (sym m)
-
-  pub digits_some : (v : ℕ) → length s ≡ k → H.Value v ≡ read_hex s → read_hex_digits k s ≡ some v
-  digits_some v h m = hex_digits k s h ∙ ap hex_number (sym m)
+  -- reading a line is reading what stands behind its key
+  pub line_reading : (s : List ℕ)
+      → read_on reading (line_at at (first_line (keyed key Some) s)) ≡ line_at at (first_line (keyed key reading) s)
+  unfolding first_line
+  line_reading s = sym (on_line (line_of s))

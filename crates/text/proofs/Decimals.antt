@@ -1,8 +1,8 @@
 -- Decimal digits both ways.
 use mathlib.Core.Path.{◌≡◌, refl, sym, ap, ◌∙◌, subst}
-use mathlib.Core.Bool.{true}
+use mathlib.Core.Bool.{true, false}
 use mathlib.Core.List.{List, [], ◌∷◌}
-use mathlib.Core.Option.{none, some}
+use Rattle.std.specs.Prelude.{None, Some}
 use Prim.Native.Nat.{ℕ, zero, suc, ◌+◌, ◌-◌, ◌*◌, ◌/◌, ◌%◌, ◌^◌, ◌≤◌, ◌<◌}
 use native.Mathlib.Omega.{arith}
 use native.Mathlib.Numerals.{add-one}
@@ -58,7 +58,7 @@ unfolding is_digit
 is_digit_lem c h l = simp (le-leb 48 c h, le-leb c 57 l)
 
 module _ (max v : ℕ) where
-  pub from_end : v ≤ max → read_from max v [] ≡ some v
+  pub from_end : v ≤ max → read_from max v [] ≡ Some v
   unfolding read_from
   from_end h = simp (le-leb v max h)
 
@@ -67,36 +67,37 @@ module _ (max v : ℕ) where
   unfolding read_from
   from_digit c s h l = simp (is_digit_lem c h l)
 
-  pub from_low : (c : ℕ) (s : List ℕ) → c < 48 → read_from max v (c ∷ s) ≡ none
-  unfolding read_from is_digit
-  from_low c s h = simp (lt-leb 48 c h)
+  pub from_other : (c : ℕ) (s : List ℕ) → is_digit c ≡ false → read_from max v (c ∷ s) ≡ None
+  unfolding read_from
+  from_other c s h = simp h
 
-  pub from_high : (c : ℕ) (s : List ℕ) → 57 < c → read_from max v (c ∷ s) ≡ none
-  unfolding read_from is_digit
-  from_high c s h = simp (le-leb 48 c (omega arith), lt-leb c 57 h)
+  pub from_next : (c : ℕ) (s : List ℕ) → is_digit c ≡ true
+      → read_from max v (c ∷ s) ≡ read_from max (v * 10 + (c - 48)) s
+  unfolding read_from
+  from_next c s h = simp h
 
-  end_sound : (n : ℕ) → read_from max v [] ≡ some n → (v ≡ n) × (n ≤ max)
+  end_sound : (n : ℕ) → read_from max v [] ≡ Some n → (v ≡ n) × (n ≤ max)
   unfolding read_from
   end_sound n h =
       by_bool (leb v max) (λ t. let e : v ≡ n = cc in (e, subst (λ (x : ℕ). x ≤ max) e (leb-true v max t)))
       (λ t. let z : ◌≡◌ {A = ℕ} 0 1 = cc in absurd (omega arith))
 
-  digit_sound : (c n : ℕ) (s : List ℕ) → read_from max v (c ∷ s) ≡ some n
-      → (48 ≤ c) × (c ≤ 57) × (read_from max (v * 10 + (c - 48)) s ≡ some n)
+  digit_sound : (c n : ℕ) (s : List ℕ) → read_from max v (c ∷ s) ≡ Some n
+      → (48 ≤ c) × (c ≤ 57) × (read_from max (v * 10 + (c - 48)) s ≡ Some n)
   unfolding read_from
   digit_sound c n s h =
       by_bool (is_digit c) (λ t. let d = digit_is c t in (d.0, d.1, (cc)))
       (λ t. let z : ◌≡◌ {A = ℕ} 0 1 = cc in absurd (omega arith))
 
 -- what is above max stays so
-pub from_over : (max v : ℕ) (s : List ℕ) → max < v → read_from max v s ≡ none
+pub from_over : (max v : ℕ) (s : List ℕ) → max < v → read_from max v s ≡ None
 unfolding read_from
 from_over max v [] h = simp (lt-leb v max h)
 from_over max v (c ∷ s) h =
     by_bool (is_digit c) (λ t. simp (t, from_over max (v * 10 + (c - 48)) s (omega arith))) (λ t. simp t)
 
 -- v's digits and then s are those of the number that is read
-from_sound : (max v n : ℕ) (s : List ℕ) → 1 ≤ v → read_from max v s ≡ some n
+from_sound : (max v n : ℕ) (s : List ℕ) → 1 ≤ v → read_from max v s ≡ Some n
     → (decimal_onto v v s ≡ decimal_of n) × (n ≤ max)
 unfolding decimal_of
 from_sound max v n [] p h = let e = end_sound max v n h in (ap (λ (x : ℕ). decimal_onto x x []) e.0, e.1)
@@ -146,11 +147,11 @@ decimal_first (suc n) = omega (arith, onto_first (suc n) (suc n) [] (omega arith
 
 -- ---- which texts are none
 module _ (max : ℕ) (s : List ℕ) where
-  pub read_empty : length s ≡ 0 → read_decimal max s ≡ none
+  pub read_empty : length s ≡ 0 → read_decimal max s ≡ None
   unfolding read_decimal
   read_empty h = simp (eq-eqb (length s) 0 h)
 
-  pub read_zero : 1 < length s → get_or s 0 0 ≡ 48 → read_decimal max s ≡ none
+  pub read_zero : 1 < length s → get_or s 0 0 ≡ 48 → read_decimal max s ≡ None
   unfolding read_decimal
   read_zero h z = simp (ne_eqb (length s) 0 (λ e. omega arith), lt-ltb 1 (length s) h, eq-eqb (get_or s 0 0) 48 z)
 
@@ -163,7 +164,7 @@ module _ (max : ℕ) (s : List ℕ) where
   read_more h z = simp (ne_eqb (length s) 0 (λ e. omega arith), lt-ltb 1 (length s) h, ne_eqb (get_or s 0 0) 48 z)
 
 -- ---- both ways
-pub decimal_complete : (max n : ℕ) → n ≤ max → read_decimal max (decimal_of n) ≡ some n
+pub decimal_complete : (max n : ℕ) → n ≤ max → read_decimal max (decimal_of n) ≡ Some n
 unfolding read_decimal decimal_of decimal_onto
 decimal_complete max zero h = from_end max 0 h
 decimal_complete max (suc n) h =
@@ -176,7 +177,7 @@ decimal_complete max (suc n) h =
     )
     (from_end max (suc n) h)
 
-pub decimal_sound : (max n : ℕ) (s : List ℕ) → read_decimal max s ≡ some n → (s ≡ decimal_of n) × (n ≤ max)
+pub decimal_sound : (max n : ℕ) (s : List ℕ) → read_decimal max s ≡ Some n → (s ≡ decimal_of n) × (n ≤ max)
 unfolding read_decimal decimal_of
 decimal_sound max n [] h = let z : ◌≡◌ {A = ℕ} 0 1 = cc in absurd (omega arith)
 decimal_sound max n (c ∷ []) h =
@@ -187,7 +188,7 @@ decimal_sound max n (c ∷ []) h =
 decimal_sound max n (c ∷ b ∷ s) h =
     let g =
     simp (ne_eqb (suc (suc (length s))) 0 (λ z. omega arith), lt-ltb 1 (suc (suc (length s))) (omega arith)) at h in
-    by_bool (eqb c 48) (λ t. some_none (some n) n refl (sym (simp t at g)))
+    by_bool (eqb c 48) (λ t. some_none (Some n) n refl (sym (simp t at g)))
     (λ t.
     let d = digit_sound max 0 c n (b ∷ s) (simp t at g) in
     let v = 0 * 10 + (c - 48) in

@@ -5,5 +5,5 @@ pub mod Decimals
 pub mod Lines
 pub mod Numbers
 pub mod Answers
-pub mod Writing
 pub mod Places
+pub mod Writing

@@ -2,7 +2,7 @@
 use mathlib.Core.Path.{◌≡◌, refl, sym, ap, ◌∙◌, subst}
 use mathlib.Core.Bool.{true, false}
 use mathlib.Core.List.{List, [], ◌∷◌, ◌++◌, append_assoc}
-use mathlib.Core.Option.{Option, none, some}
+use Rattle.std.specs.Prelude.{Option, None, Some}
 use Prim.Native.Nat.{ℕ, suc, ◌+◌}
 use native.Mathlib.Omega.{arith}
 use native.Mathlib.Numerals.{add-one}
@@ -16,30 +16,30 @@ use Rattle.float.proofs.Order.{and_true}
 use Rattle.text.proofs.Cases.{by_bool, by_option, some_none}
 
 -- ---- the first line
-longer_none : (c : ℕ) (o : Option (List ℕ)) → longer_by c o ≡ none → o ≡ none
-longer_none c none h = refl
-longer_none c (some l) h = some_none (some (c ∷ l)) (c ∷ l) refl h
+longer_none : (c : ℕ) (o : Option (List ℕ)) → longer_by c o ≡ None → o ≡ None
+longer_none c None h = refl
+longer_none c (Some l) h = some_none (Some (c ∷ l)) (c ∷ l) refl h
 
 -- c is no LF, and there is none in l
-clean_cons : (c : ℕ) (l : List ℕ) → line_of (c ∷ l) ≡ none → (eqb c 10 ≡ false) × (line_of l ≡ none)
+clean_cons : (c : ℕ) (l : List ℕ) → line_of (c ∷ l) ≡ None → (eqb c 10 ≡ false) × (line_of l ≡ None)
 unfolding line_of
 clean_cons c l h =
     by_bool (eqb c 10) (λ t. some_none (line_of (c ∷ l)) [] (simp t) h)
     (λ t. (t, longer_none c (line_of l) (simp t at h)))
 
-pub line_of_lem : (l s : List ℕ) → line_of l ≡ none → line_of (l ++ 10 ∷ s) ≡ some l
+pub line_of_lem : (l s : List ℕ) → line_of l ≡ None → line_of (l ++ 10 ∷ s) ≡ Some l
 unfolding line_of
 line_of_lem [] s h = refl
 line_of_lem (c ∷ l) s h = let d = clean_cons c l h in simp (d.0, line_of_lem l s d.1)
 
-pub clean_append : (k l : List ℕ) → line_of k ≡ none → line_of l ≡ none → line_of (k ++ l) ≡ none
+pub clean_append : (k l : List ℕ) → line_of k ≡ None → line_of l ≡ None → line_of (k ++ l) ≡ None
 unfolding line_of
 clean_append [] l h g = g
 clean_append (c ∷ k) l h g = let d = clean_cons c k h in simp (d.0, clean_append k l d.1 g)
 
-pub line_is : (s l : List ℕ) → line_of s ≡ some l → s ≡ l ++ 10 ∷ drop (suc (length l)) s
+pub line_is : (s l : List ℕ) → line_of s ≡ Some l → s ≡ l ++ 10 ∷ drop (suc (length l)) s
 unfolding line_of
-line_is [] l h = some_none none l h refl
+line_is [] l h = some_none None l h refl
 line_is (c ∷ s) l h =
     by_bool (eqb c 10)
     (λ t.
@@ -71,10 +71,10 @@ starts_is (k ∷ key) (c ∷ s) h =
 
 -- read takes the texts of the values that are Ok, each as its value, and no other text
 pub record Spells {A : Type 0} (read : List ℕ → Option A) (text : A → List ℕ) (Ok : A → Type 0) : Type 0 where
-  pub complete : (a : A) → Ok a → read (text a) ≡ some a
-  pub sound : (a : A) (s : List ℕ) → read s ≡ some a → Ok a × (s ≡ text a)
+  pub complete : (a : A) → Ok a → read (text a) ≡ Some a
+  pub sound : (a : A) (s : List ℕ) → read s ≡ Some a → Ok a × (s ≡ text a)
   -- such a text has no LF
-  pub clean : (a : A) → Ok a → line_of (text a) ≡ none
+  pub clean : (a : A) → Ok a → line_of (text a) ≡ None
 
 -- read takes off the front of a text the texts of the values that are Ok, each as its value, and nothing else
 pub record Reads {A : Type 0} (read : Reader A) (text : A → List ℕ) (Ok : A → Type 0) : Type 0 where
@@ -83,8 +83,8 @@ pub record Reads {A : Type 0} (read : Reader A) (text : A → List ℕ) (Ok : A 
       → Ok a × (n ≡ length (text a)) × (s ≡ text a ++ drop n s)
 
 module _ {A : Type 0} (read : List ℕ → Option A) (text : A → List ℕ) (Ok : A → Type 0) (key : List ℕ)
-    (k : line_of key ≡ none) (r : Spells read text Ok) where
-  keyed_sound : (a : A) (s : List ℕ) → keyed key read s ≡ some a → Ok a × (s ≡ key ++ text a)
+    (k : line_of key ≡ None) (r : Spells read text Ok) where
+  keyed_sound : (a : A) (s : List ℕ) → keyed key read s ≡ Some a → Ok a × (s ≡ key ++ text a)
   unfolding keyed
   keyed_sound a s h =
       by_bool (starts_with key s)
@@ -106,7 +106,7 @@ value_malformed a n h = let z : ◌≡◌ {A = ℕ} 0 1 = cc in absurd (omega ar
 -- what the first line is, where a value is read from it
 first_sound : {A : Type 0} (read : List ℕ → Option A) (a : A) (n : ℕ) (s : List ℕ)
     → first_line read s ≡ value a n
-    → (l : List ℕ) × (line_of s ≡ some l) × (read l ≡ some a) × (n ≡ length l + 1)
+    → (l : List ℕ) × (line_of s ≡ Some l) × (read l ≡ Some a) × (n ≡ length l + 1)
 unfolding first_line
 first_sound read a n s h =
     by_option (line_of s) (λ o. value_malformed a n (simp o at h))

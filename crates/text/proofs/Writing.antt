@@ -1,40 +1,27 @@
--- One text written after another is the two as one text.
-use mathlib.Core.Path.{◌≡◌, refl, sym, ap, ap₂, ◌∙◌}
-use mathlib.Core.List.{List, [], ◌++◌, append_assoc}
-use Prim.Native.Nat.{ℕ, ◌+◌, ◌≤◌}
-use native.Mathlib.Omega.{arith}
-use lib.ListN.{length, take, drop, length-append}
-use lib.Seq.{sets, length-sets, sets-eq, drop-drop}
-use Rattle.text.specs.Answer.{Wrote}
-use Rattle.text.proofs.Lists.{sets_append}
+-- One text appended after another is the two appended as one text, and room for both is room for each.
+use Rattle.std.proofs.Common.{◌≡◌, ℕ, ◌+◌, ◌≤◌, List, ◌++◌, [], length, append_assoc, append-nil, length-append, sym, ap, ◌∙◌, arith}
 
-module _ (l : List ℕ) (at : ℕ) where
-  pub wrote_nothing : Wrote l at [] at l
-  wrote_nothing = record { next = omega arith; out = refl }
+module _ (s a b : List ℕ) where
+  pub room_first : (N : ℕ) → length s + length (a ++ b) ≤ N → length s + length a ≤ N
+  room_first N r = omega (arith, length-append a b)
 
-  pub wrote_length : (a : List ℕ) (r : ℕ) (m : List ℕ) → Wrote l at a r m → length m ≡ length l
-  wrote_length a r m w = ap length w.out ∙ length-sets l at a
+  module _ (t : List ℕ) (p : t ≡ s ++ a) where
+    pub room_next : (N : ℕ) → length s + length (a ++ b) ≤ N → length t + length b ≤ N
+    room_next N r = let e = ap length p ∙ length-append s a in omega (arith, e, length-append a b)
 
-  pub wrote_then : (a b : List ℕ) (r q : ℕ) (m k : List ℕ) → Wrote l at a r m → Wrote m r b q k
-      → Wrote l at (a ++ b) q k
-  wrote_then a b r q m k v w =
-      record {
-        next = rw length-append (omega (arith, v.next, w.next));
-        out =
-            w.out
-            ∙ ap₂ (λ (n : List ℕ) (i : ℕ). sets n i b) v.out v.next
-            ∙ sym (sets_append l at a b);
-      }
+    pub pushed_then : (u : List ℕ) → u ≡ t ++ b → u ≡ s ++ (a ++ b)
+    pushed_then u q = q ∙ ap (λ (x : List ℕ). x ++ b) p ∙ append_assoc s a b
 
-  -- a part of k bytes that was filled with a
-  pub wrote_part : (a : List ℕ) (k r : ℕ) → length a ≡ k → r ≡ at + k → r ≤ length l
-      → Wrote l at a r (take at l ++ (a ++ drop k (drop at l)))
-  wrote_part a k r n e h =
-      record {
-        next = omega arith;
-        out = sym
-            (sets-eq a l at (omega arith)
-            ∙ append_assoc (take at l) a (drop (at + length a) l)
-            ∙ ap (λ (t : List ℕ). take at l ++ (a ++ t))
-            (ap (λ (i : ℕ). drop (at + i) l) n ∙ sym (drop-drop k at l)));
-      }
+-- ---- a text that is appended piece by piece: of all, which goes behind s, a and then b are left, and go behind t
+module _ (t a b s all : List ℕ) (left : t ++ (a ++ b) ≡ s ++ all) where
+  pub left_room : (N : ℕ) → length s + length all ≤ N → length t + length a ≤ N
+  left_room N r =
+      let e = ap length left in
+      omega (arith, simp length-append at e)
+
+  pub left_next : (u : List ℕ) → u ≡ t ++ a → u ++ b ≡ s ++ all
+  left_next u p = ap (λ (x : List ℕ). x ++ b) p ∙ append_assoc t a b ∙ left
+
+-- nothing is left
+pub left_none : (t b s all : List ℕ) → b ≡ [] → t ++ b ≡ s ++ all → t ≡ s ++ all
+left_none t b s all e left = sym (append-nil t) ∙ ap (λ (x : List ℕ). t ++ x) (sym e) ∙ left

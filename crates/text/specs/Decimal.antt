@@ -1,6 +1,6 @@
 -- Whole numbers as decimal digits in ASCII, most significant first, without needless zeros. Definitions only.
 use Rattle.std.specs.Prelude.{ℕ, zero, suc, ◌+◌, ◌-◌, ◌*◌, ◌/◌, ◌%◌, ◌^◌, Bool, ◌&&◌, cond, List, [], ◌∷◌, leb, ltb, eqb, length, get_or, drop, ℤ, pos, negsuc}
-use Rattle.std.proofs.Math.Option.{Option, none, some}
+use Rattle.std.specs.Prelude.{Option, None, Some}
 
 -- n's digits, of which there are at most k + 1, in front of s
 unfoldable pub decimal_onto : ℕ → ℕ → List ℕ → List ℕ
@@ -27,24 +27,24 @@ is_digit c = leb 48 c && leb c 57
 -- the number that v's digits and then s are, if it is at most max
 unfoldable pub read_from : ℕ → ℕ → List ℕ → Option ℕ
 unfolding is_digit
-read_from max v [] = cond (leb v max) (some v) none
-read_from max v (c ∷ s) = cond (is_digit c) (read_from max (v * 10 + (c - 48)) s) none
+read_from max v [] = cond (leb v max) (Some v) None
+read_from max v (c ∷ s) = cond (is_digit c) (read_from max (v * 10 + (c - 48)) s) None
 
 -- the number that s is, if it is at most max: one digit or more, the first of several not `0`
 unfoldable pub read_decimal : ℕ → List ℕ → Option ℕ
 unfolding read_from
 read_decimal max s =
-    cond (eqb (length s) 0) none (cond (ltb 1 (length s) && eqb (get_or s 0 0) 48) none (read_from max 0 s))
+    cond (eqb (length s) 0) None (cond (ltb 1 (length s) && eqb (get_or s 0 0) 48) None (read_from max 0 s))
 
 -- -n, where n is not 0: `-0` is no number
 unfoldable pub negative : Option ℕ → Option ℤ
-negative none = none
-negative (some zero) = none
-negative (some (suc n)) = some (negsuc n)
+negative None = None
+negative (Some zero) = None
+negative (Some (suc n)) = Some (negsuc n)
 
 unfoldable pub non_negative : Option ℕ → Option ℤ
-non_negative none = none
-non_negative (some n) = some (pos n)
+non_negative None = None
+non_negative (Some n) = Some (pos n)
 
 -- the `i32` that s is
 unfoldable pub read_signed : List ℕ → Option ℤ

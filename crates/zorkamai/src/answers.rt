@@ -1,5 +1,5 @@
-// The answers of the entry points as hosts see them: an enum becomes its status and the values of its case, and 0 for
-// what the case has not.
+// The answers of the entry points as hosts see them: each becomes its status and the values of its case, and 0 for what
+// the case has not.
 ghost use Rattle.std.specs.Prelude.{◌≡◌};
 ghost use Rattle.zorkamai.specs.Answers.{
   of_solve,
@@ -14,13 +14,12 @@ ghost use Rattle.zorkamai.specs.Answers.{
 };
 
 use crate::{Answer, CellAnswer, RecordAnswer, RunReport, TimeAnswer};
-use gauss::SolveAnswer;
-use matrix::ColStep;
-use models::{FitAnswer, PredictAnswer, PredictOutcome};
-use records::{AlignedTime, Found};
-use regression::FitOutcome;
-use retention_alignment::AlignAnswer;
-use run::RunAnswer;
+use matrix::Col;
+use models::PredictOutcome;
+use records::Alignment;
+use regression::{FitOutcome, Unfitted};
+use run::Ran;
+use status::Refusal;
 
 // An answer with a status alone.
 fn only(status: u8) -> Answer
@@ -35,142 +34,165 @@ fn only(status: u8) -> Answer
     }
 }
 
-pub(crate) fn of_solve(a: SolveAnswer) -> Answer
-    ensures { result ≡ of_solve a }
-{
-    match a {
-        SolveAnswer::Solved(ridge) => Answer {
-            status: status::ACCEPTED,
-            ridge,
-            r2: 0.0,
-            n: 0,
-            inexact: 0,
-        },
-        SolveAnswer::Unsolved => only(status::NOT_SOLVED),
-        SolveAnswer::Refused(status) => only(status),
+// The solver's.
+impl From<Result<Option<f64>, Refusal>> for Answer {
+    ghost from_gives = { λ a r. r ≡ of_solve a };
+
+    fn from(a: Result<Option<f64>, Refusal>) -> Answer {
+        match a {
+            Ok(Some(ridge)) => Answer {
+                status: status::ACCEPTED,
+                ridge,
+                r2: 0.0,
+                n: 0,
+                inexact: 0,
+            },
+            Ok(None) => only(status::NOT_SOLVED),
+            Err(refusal) => only(refusal.number()),
+        }
     }
 }
 
-pub(crate) fn of_align(a: AlignAnswer) -> u8
+// The alignment's. A function, since neither of the two types is of this crate.
+pub(crate) fn status_of(a: Result<(), Refusal>) -> u8
     ensures { result ≡ of_align a }
 {
     match a {
-        AlignAnswer::Accepted => status::ACCEPTED,
-        AlignAnswer::Refused(status) => status,
+        Ok(()) => status::ACCEPTED,
+        Err(refusal) => refusal.number(),
     }
 }
 
-pub(crate) fn of_prediction(p: PredictOutcome) -> Answer
-    ensures { result ≡ of_prediction p }
-{
-    let fit = p.fit;
-    match fit {
-        FitOutcome::Solved { ridge, r2, n } => Answer {
-            status: status::ACCEPTED,
-            ridge,
-            r2,
-            n,
-            inexact: p.inexact,
-        },
-        FitOutcome::NoTrainingRows => only(status::NO_TRAINING),
-        FitOutcome::NotSolved => only(status::NOT_SOLVED),
+// Of a prediction whose call was accepted.
+impl From<PredictOutcome> for Answer {
+    ghost from_gives = { λ p r. r ≡ of_prediction p };
+
+    fn from(p: PredictOutcome) -> Answer {
+        match p.fit {
+            Ok(fit) => Answer {
+                status: status::ACCEPTED,
+                ridge: fit.ridge,
+                r2: fit.r2,
+                n: fit.n,
+                inexact: p.inexact,
+            },
+            Err(Unfitted::NoTrainingRows) => only(status::NO_TRAINING),
+            Err(Unfitted::NotSolved) => only(status::NOT_SOLVED),
+        }
     }
 }
 
-// A fit alone predicts no row.
-pub(crate) fn of_fit(a: FitAnswer) -> Answer
-    ensures { result ≡ of_fit a }
-{
-    match a {
-        FitAnswer::Fitted(fit) => of_prediction(PredictOutcome { fit, inexact: 0 }),
-        FitAnswer::Refused(status) => only(status),
+// A fit's: it predicts no row.
+impl From<Result<FitOutcome, Refusal>> for Answer {
+    ghost from_gives = { λ a r. r ≡ of_fit a };
+
+    fn from(a: Result<FitOutcome, Refusal>) -> Answer {
+        match a {
+            Ok(fit) => Answer::from(PredictOutcome { fit, inexact: 0 }),
+            Err(refusal) => only(refusal.number()),
+        }
     }
 }
 
-pub(crate) fn of_predict(a: PredictAnswer) -> Answer
-    ensures { result ≡ of_predict a }
-{
-    match a {
-        PredictAnswer::Predicted(p) => of_prediction(p),
-        PredictAnswer::Refused(status) => only(status),
+// A prediction's.
+impl From<Result<PredictOutcome, Refusal>> for Answer {
+    ghost from_gives = { λ a r. r ≡ of_predict a };
+
+    fn from(a: Result<PredictOutcome, Refusal>) -> Answer {
+        match a {
+            Ok(p) => Answer::from(p),
+            Err(refusal) => only(refusal.number()),
+        }
     }
 }
 
-pub(crate) fn of_run(a: RunAnswer) -> RunReport
-    ensures { result ≡ of_run a }
-{
-    match a {
-        RunAnswer::Ran {
-            retention,
-            mobility,
-        } => RunReport {
-            status: status::ACCEPTED,
-            retention: of_prediction(retention),
-            mobility: of_prediction(mobility),
-        },
-        RunAnswer::Refused(status) => RunReport {
-            status,
-            retention: only(status),
-            mobility: only(status),
-        },
+// A run's.
+impl From<Result<Ran, Refusal>> for RunReport {
+    ghost from_gives = { λ a r. r ≡ of_run a };
+
+    fn from(a: Result<Ran, Refusal>) -> RunReport {
+        match a {
+            Ok(ran) => RunReport {
+                status: status::ACCEPTED,
+                retention: Answer::from(ran.retention),
+                mobility: Answer::from(ran.mobility),
+            },
+            Err(refusal) => {
+                let status = refusal.number();
+                RunReport {
+                    status,
+                    retention: only(status),
+                    mobility: only(status),
+                }
+            }
+        }
     }
 }
 
-pub(crate) fn of_found(f: Found) -> RecordAnswer
-    ensures { result ≡ of_found f }
-{
-    match f {
-        Found::At(a) => RecordAnswer {
-            status: status::ACCEPTED,
-            max_rt: a.max_rt,
-            slope: a.slope,
-            intercept: a.intercept,
-            used: a.used,
-            max_rt_exact: a.max_rt_exact,
-            slope_exact: a.slope_exact,
-            intercept_exact: a.intercept_exact,
-        },
-        Found::Refused(status) => RecordAnswer {
-            status,
-            max_rt: 0.0,
-            slope: 0.0,
-            intercept: 0.0,
-            used: 0,
-            max_rt_exact: false,
-            slope_exact: false,
-            intercept_exact: false,
-        },
+// A lookup's.
+impl From<Result<Alignment, Refusal>> for RecordAnswer {
+    ghost from_gives = { λ a r. r ≡ of_found a };
+
+    fn from(a: Result<Alignment, Refusal>) -> RecordAnswer {
+        match a {
+            Ok(a) => RecordAnswer {
+                status: status::ACCEPTED,
+                max_rt: a.max_rt,
+                slope: a.slope,
+                intercept: a.intercept,
+                used: a.used,
+                max_rt_exact: a.max_rt_exact,
+                slope_exact: a.slope_exact,
+                intercept_exact: a.intercept_exact,
+            },
+            Err(refusal) => RecordAnswer {
+                status: refusal.number(),
+                max_rt: 0.0,
+                slope: 0.0,
+                intercept: 0.0,
+                used: 0,
+                max_rt_exact: false,
+                slope_exact: false,
+                intercept_exact: false,
+            },
+        }
     }
 }
 
-pub(crate) fn of_time(t: AlignedTime) -> TimeAnswer
-    ensures { result ≡ of_time t }
-{
-    match t {
-        AlignedTime::At(aligned) => TimeAnswer {
-            status: status::ACCEPTED,
-            aligned,
-        },
-        AlignedTime::Refused(status) => TimeAnswer {
-            status,
-            aligned: 0.0,
-        },
+// An aligned time's.
+impl From<Result<f32, Refusal>> for TimeAnswer {
+    ghost from_gives = { λ a r. r ≡ of_time a };
+
+    fn from(a: Result<f32, Refusal>) -> TimeAnswer {
+        match a {
+            Ok(aligned) => TimeAnswer {
+                status: status::ACCEPTED,
+                aligned,
+            },
+            Err(refusal) => TimeAnswer {
+                status: refusal.number(),
+                aligned: 0.0,
+            },
+        }
     }
 }
 
-pub(crate) fn of_step(s: ColStep) -> CellAnswer
-    ensures { result ≡ of_step s }
-{
-    match s {
-        ColStep::Value(value, below) => CellAnswer {
-            found: true,
-            value,
-            row: below.row,
-        },
-        ColStep::Done => CellAnswer {
-            found: false,
-            value: 0.0,
-            row: 0,
-        },
+// A column walker's.
+impl From<Option<(f64, Col)>> for CellAnswer {
+    ghost from_gives = { λ a r. r ≡ of_step a };
+
+    fn from(a: Option<(f64, Col)>) -> CellAnswer {
+        match a {
+            Some((value, below)) => CellAnswer {
+                found: true,
+                value,
+                row: below.row,
+            },
+            None => CellAnswer {
+                found: false,
+                value: 0.0,
+                row: 0,
+            },
+        }
     }
 }

@@ -26,8 +26,11 @@ ghost use Rattle.zorkamai.specs.Answers.{
 
 mod answers;
 
-use models::{mobility_model, retention_model};
+use model_fit::{Input, Rows, Table};
+use models::{Outputs, mobility_model, retention_model};
 use records::Alignment;
+use retention_alignment::{FileColumns, Observations};
+use run::Batch;
 
 // The answer of the solver, of a fit or of a prediction: its status and, if that is 0, the ridge, the fit's r2 and the
 // number of training rows, and of how many rows narrowing changed the prediction. What a call does not give is 0.
@@ -93,7 +96,7 @@ pub extern "C" fn zorkamai_solve(
 ) -> Answer
     ensures { SolveExported (system_of left right n c) (solveSlices workspace solution) result }
 {
-    answers::of_solve(gauss::solve(left, right, n, c, workspace, solution))
+    Answer::from(gauss::solve(left, right, n, c, workspace, solution))
 }
 
 // Aligns the rows' times (`retention_alignment::global_alignment`).
@@ -123,7 +126,7 @@ pub extern "C" fn zorkamai_align(
         aligned)
         result }
 {
-    answers::of_align(retention_alignment::global_alignment(
+    let observed = Observations {
         file,
         peptide,
         label,
@@ -131,7 +134,8 @@ pub extern "C" fn zorkamai_align(
         rt,
         files,
         peptides,
-        workspace,
+    };
+    let mut records = FileColumns {
         max_rt,
         slope,
         intercept,
@@ -139,6 +143,11 @@ pub extern "C" fn zorkamai_align(
         max_rt_exact,
         slope_exact,
         intercept_exact,
+    };
+    answers::status_of(retention_alignment::global_alignment(
+        observed,
+        workspace,
+        &mut records,
         aligned,
     ))
 }
@@ -162,9 +171,20 @@ pub extern "C" fn zorkamai_retention_fit(
         (fit_slices workspace beta)
         result }
 {
-    answers::of_fit(retention_model::fit(
-        peptide, label, q, aligned, letters, offsets, masses, logs, workspace, beta,
-    ))
+    let rows = Rows {
+        peptide,
+        label,
+        q,
+        charge: b"",
+        observed: aligned,
+    };
+    let table = Table {
+        letters,
+        offsets,
+        masses,
+        logs,
+    };
+    Answer::from(retention_model::fit(Input { rows, table }, workspace, beta))
 }
 
 // Fits them and predicts every row (`models::retention_model::predict`).
@@ -188,10 +208,25 @@ pub extern "C" fn zorkamai_retention_predict(
         (predict_slices workspace (outputs_of beta predicted error))
         result }
 {
-    answers::of_predict(retention_model::predict(
-        peptide, label, q, aligned, letters, offsets, masses, logs, workspace, beta, predicted,
+    let rows = Rows {
+        peptide,
+        label,
+        q,
+        charge: b"",
+        observed: aligned,
+    };
+    let table = Table {
+        letters,
+        offsets,
+        masses,
+        logs,
+    };
+    let outputs = Outputs {
+        beta,
+        predicted,
         error,
-    ))
+    };
+    Answer::from(retention_model::predict(Input { rows, table }, workspace, outputs))
 }
 
 // Fits the mobilities of the training rows (`models::mobility_model::fit`).
@@ -213,9 +248,20 @@ pub extern "C" fn zorkamai_mobility_fit(
         (fit_slices workspace beta)
         result }
 {
-    answers::of_fit(mobility_model::fit(
-        peptide, label, q, charge, mobility, letters, offsets, masses, workspace, beta,
-    ))
+    let rows = Rows {
+        peptide,
+        label,
+        q,
+        charge,
+        observed: mobility,
+    };
+    let table = Table {
+        letters,
+        offsets,
+        masses,
+        logs: &[],
+    };
+    Answer::from(mobility_model::fit(Input { rows, table }, workspace, beta))
 }
 
 // Fits them and predicts every row (`models::mobility_model::predict`).
@@ -239,10 +285,25 @@ pub extern "C" fn zorkamai_mobility_predict(
         (predict_slices workspace (outputs_of beta predicted error))
         result }
 {
-    answers::of_predict(mobility_model::predict(
-        peptide, label, q, charge, mobility, letters, offsets, masses, workspace, beta, predicted,
+    let rows = Rows {
+        peptide,
+        label,
+        q,
+        charge,
+        observed: mobility,
+    };
+    let table = Table {
+        letters,
+        offsets,
+        masses,
+        logs: &[],
+    };
+    let outputs = Outputs {
+        beta,
+        predicted,
         error,
-    ))
+    };
+    Answer::from(mobility_model::predict(Input { rows, table }, workspace, outputs))
 }
 
 // The alignment, both fits on it, and the predictions and errors of each model that fits (`run::run`).
@@ -285,7 +346,13 @@ pub extern "C" fn zorkamai_run(
         (outputs_of mobility_beta mobility_predicted mobility_error))
         result }
 {
-    answers::of_run(run::run(
+    let table = Table {
+        letters,
+        offsets,
+        masses,
+        logs,
+    };
+    let batch = Batch {
         file,
         peptide,
         label,
@@ -294,11 +361,9 @@ pub extern "C" fn zorkamai_run(
         charge,
         mobility,
         files,
-        letters,
-        offsets,
-        masses,
-        logs,
-        workspace,
+        table,
+    };
+    let mut records = FileColumns {
         max_rt,
         slope,
         intercept,
@@ -306,14 +371,18 @@ pub extern "C" fn zorkamai_run(
         max_rt_exact,
         slope_exact,
         intercept_exact,
-        aligned,
-        retention_beta,
-        retention_predicted,
-        retention_error,
-        mobility_beta,
-        mobility_predicted,
-        mobility_error,
-    ))
+    };
+    let retention = Outputs {
+        beta: retention_beta,
+        predicted: retention_predicted,
+        error: retention_error,
+    };
+    let mobility = Outputs {
+        beta: mobility_beta,
+        predicted: mobility_predicted,
+        error: mobility_error,
+    };
+    RunReport::from(run::run(batch, workspace, &mut records, aligned, retention, mobility))
 }
 
 // The cell in a row of a column of a matrix of rows × cols cells (`column::step_at`).
@@ -327,7 +396,7 @@ pub extern "C" fn zorkamai_column_step(
 ) -> CellAnswer
     ensures { result ≡ of_step (step_of rows cols (record { row = row; col = col }) cells.now) }
 {
-    answers::of_step(column::step_at(cells, rows, cols, row, col))
+    CellAnswer::from(column::step_at(cells, rows, cols, row, col))
 }
 
 // The record of a file in a list of records (`records::record_of`).
@@ -335,7 +404,7 @@ pub extern "C" fn zorkamai_column_step(
 pub extern "C" fn zorkamai_record_of(records: &[Alignment], file: u32) -> RecordAnswer
     ensures { result ≡ of_found (record_of records.now file) }
 {
-    answers::of_found(records::record_of(records, file))
+    RecordAnswer::from(records::record_of(records, file))
 }
 
 // The aligned time of a row with this file and this time, by a list of records (`records::aligned`).
@@ -343,5 +412,5 @@ pub extern "C" fn zorkamai_record_of(records: &[Alignment], file: u32) -> Record
 pub extern "C" fn zorkamai_aligned_time(records: &[Alignment], file: u32, rt: f32) -> TimeAnswer
     ensures { result ≡ of_time (time_by (record_of records.now file) rt) }
 {
-    answers::of_time(records::aligned(records, file, rt))
+    TimeAnswer::from(records::aligned(records, file, rt))
 }

@@ -1,37 +1,31 @@
--- `align_output::write_aligned` meets its contract. The loop's invariant: writing the times that are left gives what
--- writing all of them gives, and a time takes 17 bytes.
-use mathlib.Core.Path.{subst}
-use mathlib.Core.List.{List}
-use Prim.Native.Nat.{ℕ}
-use native.Mathlib.Omega.{arith}
-use lib.ListN.{get_or}
-use lib.Ieee.{nan}
+-- `align_output::write_aligned` meets its contract. The loop's invariant: what is written, and the lines of the times
+-- that are left behind it, are what was written before, and the lines of all behind it.
+use Rattle.std.proofs.Common.{◌≡◌, ℕ, ◌+◌, ◌<◌, List, ◌++◌, length, drop, get_or, sym, ap, ◌∙◌, rules}
+use lib.Ieee.{Float, nan}
+use Rattle.text.proofs.Writing.{left_room, left_next, left_none}
 use Rattle.align_output.specs.Output.{aligned_key, float_line, aligned_text}
-use Rattle.align_output.proofs.Pieces.{Writing, writing_start, writing_done, writing_more}
-use Rattle.align_output.proofs.Lengths.{float_length, aligned_next, aligned_end}
-use borrow.Author.Rules.{rules}
+use Rattle.align_output.proofs.Lengths.{aligned_next, aligned_end}
 use Rattle.align_output.proofs.write_aligned.Goals as goal
 
-pub loop-i-init : goal.loop-i-init
-loop-i-init c = (search rules, search rules, writing_start _ _ _)
+-- at a turn of the loop
+turn : (ts : List Float) (i : ℕ) (t all : List ℕ) → i < length ts → t ++ aligned_text (drop i ts) ≡ all
+    → t ++ (float_line aligned_key (get_or ts i nan) ++ aligned_text (drop (i + 1) ts)) ≡ all
+turn ts i t all h left = ap (λ (x : List ℕ). t ++ x) (sym (aligned_next ts i h)) ∙ left
 
-pub write_float-next-requires : goal.write_float-next-requires
-write_float-next-requires c =
-    omega (arith, c.loop-i.invariant, c.loop-i.invariant.2.long, c.requires)
+pub write_float-requires : goal.write_float-requires
+write_float-requires g c =
+    let l = c.loop-time in
+    let ts = c.args.aligned.now in
+    (search rules, left_room l.out _ _ c.args.out.now (aligned_text ts) (turn ts l.time-index l.out _ c.loop-time-test.true l.invariant) g.row.N c.requires)
 
-pub loop-i-preserved : goal.loop-i-preserved
-loop-i-preserved c =
-    let i = c.loop-i.i in
-    let ts = c.args.aligned.now in (
-      omega arith,
-      omega (arith, c.loop-i.invariant.1, c.write_float-next.ensures.next, float_length aligned_key (get_or ts i nan)),
-      writing_more _ _ _ _ _ (float_line aligned_key (get_or ts i nan)) _ _ _
-          (subst (λ (x : List ℕ). Writing c.args.out.now c.args.at (aligned_text ts) c.loop-i.out c.loop-i.next x) (aligned_next ts i c.loop-i-test.true) c.loop-i.invariant.2)
-          c.write_float-next.ensures,
-    )
+pub loop-time-preserved : goal.loop-time-preserved
+loop-time-preserved g c =
+    let l = c.loop-time in
+    let ts = c.args.aligned.now in
+    left_next l.out _ _ c.args.out.now (aligned_text ts) (turn ts l.time-index l.out _ c.loop-time-test.true l.invariant) _ c.write_float.ensures
 
 pub returns : goal.returns
-returns c =
+returns g c =
+    let l = c.loop-time in
     let ts = c.args.aligned.now in
-    writing_done _ _ _ _ _
-    (subst (λ (x : List ℕ). Writing c.args.out.now c.args.at (aligned_text ts) c.loop-i.out c.loop-i.next x) (aligned_end ts c.loop-i.i c.loop-i-test.false) c.loop-i.invariant.2)
+    left_none l.out _ c.args.out.now (aligned_text ts) (aligned_end ts l.time-index c.loop-time-test.false) l.invariant

@@ -1,16 +1,9 @@
--- `align_output::write_aligned` meets its contract. The loop's invariant: writing the times that are left gives what
--- writing all of them gives, and a time takes 17 bytes.
-use Prim.Native.Nat.{◌+◌, ◌-◌, ◌*◌, ◌≤◌}
-use lib.ListN.{length, drop}
+-- `align_output::write_aligned` meets its contract. The loop's invariant: what is written, and the lines of the times
+-- that are left behind it, are what was written before, and the lines of all behind it.
+use Rattle.std.proofs.Common.{◌≡◌, ◌++◌, drop}
 use Rattle.align_output.specs.Output.{aligned_text}
-use Rattle.align_output.proofs.Pieces.{Writing}
 use Rattle.align_output.proofs.write_aligned.Given as goal
 
-abbrev pub invariant-loop-i : goal.invariant-loop-i
-invariant-loop-i l =
-    (l.i ≤ length l.aligned)
-    × (l.next ≤ l.at + 17 * l.i)
-    × Writing l.initial.out l.at (aligned_text l.aligned) l.out l.next (aligned_text (drop l.i l.aligned))
-
-abbrev pub decreases-loop-i : goal.decreases-loop-i
-decreases-loop-i l = length l.aligned - l.i
+abbrev pub invariant-loop-time : goal.invariant-loop-time
+invariant-loop-time g l =
+    l.out ++ aligned_text (drop l.time-index l.aligned) ≡ l.initial.out ++ aligned_text l.aligned

@@ -1,67 +1,49 @@
--- `align_output::write_files` meets its contract. The loop's invariant: writing the files that are left gives what
--- writing all of them gives, and a file takes at most 80 bytes.
-use mathlib.Core.Path.{◌≡◌, ap, ◌∙◌, subst}
-use mathlib.Core.List.{List, ◌++◌}
-use Prim.Native.Nat.{ℕ, ◌+◌, ◌<◌}
-use native.Mathlib.Omega.{arith}
-use lib.ListN.{length, drop, get_or}
-use lib.Ieee.{Float, nan}
-use borrow.Author.Rules.{rules}
-use Rattle.align_output.specs.Output.{printed_in, file_text, files_text}
+-- `align_output::write_files` meets its contract. The loop's invariant: what is written, and the texts of the files
+-- that are left behind it, are what was written before, and the texts of all behind it.
+use Rattle.std.proofs.Common.{◌≡◌, ℕ, ◌+◌, ◌<◌, List, ◌++◌, length, drop, ◌≤◌, sym, ap, ◌∙◌, subst, arith, rules}
+use Rattle.text.proofs.Writing.{left_room, left_next, left_none}
+use Rattle.align_output.specs.Output.{printed_at, cells_at, file_text, files_text}
 use Rattle.align_output.specs.declared.Printed.{Printed}
-use Rattle.align_output.proofs.PrintedColumns.{none_printed, length_printed, printed_at}
-use Rattle.align_output.proofs.Pieces.{Writing, writing_start, writing_done, writing_more}
-use Rattle.align_output.proofs.Lengths.{file_length, files_next, files_end}
+use Rattle.align_output.specs.declared.files.Files.{Files}
+use Rattle.align_output.proofs.PrintedColumns.{none_printed, length_printed, printed_cells}
+use Rattle.align_output.proofs.Lengths.{files_next, files_end}
 use Rattle.align_output.proofs.write_files.Goals as goal
 
--- what is printed of one file
-abbrev file : (max_rt slope intercept : List Float) (used : List ℕ) → ℕ → Printed
-file ms ss is us k =
-    record { max_rt = get_or ms k nan; slope = get_or ss k nan; intercept = get_or is k nan; used = get_or us k 0 }
+-- at a turn of the loop
+turn : (files : Files) (i : ℕ) (t all : List ℕ) → i < length files.max_rt.now
+    → t ++ files_text i (drop i (printed_at files)) ≡ all
+    → t ++ (file_text i (cells_at files i) ++ files_text (i + 1) (drop (i + 1) (printed_at files))) ≡ all
+turn files i t all h left =
+    let ms = files.max_rt.now in
+    let ss = files.slope.now in
+    let is = files.intercept.now in
+    let us = files.used.now in
+    let ps = printed_at files in
+    let e =
+    files_next ps none_printed i (omega (arith, h, length_printed ms ss is us files.slopes files.intercepts files.counts))
+    ∙ ap (λ (p : Printed). file_text i p ++ files_text (i + 1) (drop (i + 1) ps))
+    (printed_cells ms ss is us files.slopes files.intercepts files.counts i h) in
+    ap (λ (x : List ℕ). t ++ x) (sym e) ∙ left
 
--- the texts of all files from i on, by the i-th and the rest
-next_text : (ms ss is : List Float) (us : List ℕ) (i : ℕ) → length ss ≡ length ms → length is ≡ length ms
-    → length us ≡ length ms → i < length ms
-    → files_text i (drop i (printed_in ms ss is us))
-    ≡ file_text i (file ms ss is us i) ++ files_text (i + 1) (drop (i + 1) (printed_in ms ss is us))
-next_text ms ss is us i a b d h =
-    let all = printed_in ms ss is us in
-    files_next all none_printed i (omega (arith, length_printed ms ss is us a b d))
-    ∙ ap (λ (p : Printed). file_text i p ++ files_text (i + 1) (drop (i + 1) all)) (printed_at ms ss is us a b d i h)
-
-pub loop-i-init : goal.loop-i-init
-loop-i-init c = (search rules, search rules, writing_start _ _ _)
-
-pub write_file-next-requires : goal.write_file-next-requires
-write_file-next-requires c = omega (arith, c.loop-i.invariant, c.loop-i.invariant.2.long, c.requires.0)
+pub write_file-requires : goal.write_file-requires
+write_file-requires g c =
+    let l = c.loop-i in
+    let f = c.args.files in
+    let e = turn f l.i l.out _ (omega (arith, c.loop-i-test.true, c.count-i-end.ensures.number)) l.invariant in
+    let r = left_room l.out _ _ c.args.out.now (files_text 0 (printed_at f)) e g.row.N c.requires in
+    (search rules, subst (λ (a : Printed). length l.out + length (file_text l.i a) ≤ g.row.N) (sym c.get-a.ensures) r)
 
 pub loop-i-preserved : goal.loop-i-preserved
-loop-i-preserved c =
-    let a = c.args in
-    let p = c.requires in
+loop-i-preserved g c =
     let l = c.loop-i in
-    let ms = a.max_rt.now in
-    let ss = a.slope.now in
-    let is = a.intercept.now in
-    let us = a.used.now in
-    let all = printed_in ms ss is us in
-    let f = file ms ss is us l.i in
-    let short = file_length l.i f (omega (arith, p.1)) (c.type_inv.used l.i).fits in (
-      omega arith,
-      omega (arith, l.invariant.1, c.write_file-next.ensures.next, short),
-      writing_more _ _ _ _ _ (file_text l.i f) _ _ _
-          (subst (λ (x : List ℕ). Writing a.out.now a.at (files_text 0 all) l.out l.next x)
-          (next_text ms ss is us l.i p.2 p.3 p.4 c.loop-i-test.true) l.invariant.2)
-          c.write_file-next.ensures,
-    )
+    let f = c.args.files in
+    let e = turn f l.i l.out _ (omega (arith, c.loop-i-test.true, c.count-i-end.ensures.number)) l.invariant in
+    left_next l.out _ _ c.args.out.now (files_text 0 (printed_at f)) e _ (c.write_file.ensures ∙ ap (λ (a : Printed). l.out ++ file_text l.i a) c.get-a.ensures)
 
 pub returns : goal.returns
-returns c =
-    let a = c.args in
-    let p = c.requires in
+returns g c =
     let l = c.loop-i in
-    let all = printed_in a.max_rt.now a.slope.now a.intercept.now a.used.now in
-    let long = length_printed a.max_rt.now a.slope.now a.intercept.now a.used.now p.2 p.3 p.4 in
-    writing_done _ _ _ _ _
-    (subst (λ (x : List ℕ). Writing a.out.now a.at (files_text 0 all) l.out l.next x)
-    (files_end all l.i (omega (arith, long))) l.invariant.2)
+    let f = c.args.files in
+    let n = length_printed f.max_rt.now f.slope.now f.intercept.now f.used.now f.slopes f.intercepts f.counts in
+    left_none l.out _ c.args.out.now (files_text 0 (printed_at f))
+    (files_end (printed_at f) l.i (omega (arith, c.loop-i-test.false, c.count-i-end.ensures.number, n))) l.invariant

@@ -1,65 +1,62 @@
--- `align_text::align_text` meets its contract: the text stands in the buffer, and is copied where it fits; by the
--- number of the text in both cases.
-use mathlib.Core.Path.{◌≡◌, sym, ap, ◌∙◌}
-use mathlib.Core.List.{List}
-use Prim.Native.Nat.{ℕ, ◌+◌, ◌≤◌}
-use native.Mathlib.Omega.{arith}
-use lib.ListN.{length, take}
-use lib.Seq.{sets, length-take-le}
-use Rattle.align_text.specs.AlignText.{align_text}
-use Rattle.align_text.proofs.Answers.{first_cells}
-use Rattle.align_text.proofs.Contract.{too_short_lem, refused, written_accepted, written_refused}
-use Rattle.align_text.proofs.Longest.{text_short}
+-- `align_text::align_text` meets its contract: the text's answer stands in the buffer, and is copied where it fits.
+use Rattle.std.proofs.Common.{◌≡◌, ℕ, ◌<◌, ◌≤◌, List, [], ◌++◌, length, drop, sym, ap, ◌∙◌, subst}
+use Rattle.std.specs.Prelude.{Ok}
+use Rattle.status.specs.Status.{accepted, number_of}
+use Rattle.status.specs.declared.Refusal.{Refusal}
+use Rattle.align_text.specs.AlignText.{align_text, text_status, Answered}
+use Rattle.align_text.proofs.Contract.{refusing, too_short_lem, refused, written_accepted, written_refused}
 use Rattle.align_text.proofs.align_text.Goals as goal
 
--- the text in the buffer
-module _ (t buffer zeros : List ℕ) (n : ℕ) (next : n ≡ 0 + length (align_text t)) (out : buffer ≡ sets zeros 0 (align_text t))
-    (long : length buffer ≡ 8192) where
-  buffered : n ≤ length buffer
-  buffered = omega (arith, next, text_short t, long)
+-- what is in the buffer
+buffered : (t start bytes all : List ℕ) → bytes ≡ all → all ≡ start ++ align_text t → start ≡ []
+    → bytes ≡ align_text t
+buffered t start bytes all e f g = e ∙ f ∙ ap (λ (x : List ℕ). x ++ align_text t) g
 
-  the_text : take n buffer ≡ align_text t
-  the_text =
-      let e : length (align_text t) ≡ n = omega (arith, next) in
-      first_cells n zeros buffer (align_text t) out e buffered
+module _ (t before bytes : List ℕ) (e : bytes ≡ align_text t) where
+  -- ---- no room
+  longer : length before < length bytes → length before < length (align_text t)
+  longer h = subst (λ (b : List ℕ). length before < length b) e h
 
-pub returns-then-status-eq-ACCEPTED : goal.returns-then-status-eq-ACCEPTED
-returns-then-status-eq-ACCEPTED c =
-    let e = c.answer_text-answer.ensures in
-    too_short_lem c.args.input.now c.args.output.now _ _ e.number e.wrote.next c.if-output-n.true
-    c.if-status-eq-ACCEPTED.true
+  -- ---- copied
+  module _ (copied : List ℕ) (k : copied ≡ bytes) (h : length bytes ≤ length before) where
+    fitting : length (align_text t) ≤ length before
+    fitting = subst (λ (b : List ℕ). length b ≤ length before) e h
 
-pub returns-then-output-n : goal.returns-then-output-n
-returns-then-output-n c =
-    let e = c.answer_text-answer.ensures in
-    refused c.args.input.now c.args.output.now _ _ e.number e.wrote.next c.if-output-n.true c.if-status-eq-ACCEPTED.false
+    over : copied ++ drop (length (align_text t)) before ≡ align_text t ++ drop (length (align_text t)) before
+    over = ap (λ (x : List ℕ). x ++ drop (length (align_text t)) before) (k ∙ e)
 
-pub slice_bounds-buffer-end : goal.slice_bounds-buffer-end
-slice_bounds-buffer-end c =
-    let e = c.answer_text-answer.ensures in
-    buffered c.args.input.now c.answer_text-answer.new.out _ c.answer_text-answer.result.length e.wrote.next e.wrote.out c.answer_text-answer.auto.out
+    copied_accepted : accepted ≡ text_status t
+        → Answered t before (Ok (length bytes)) (copied ++ drop (length bytes) before)
+    copied_accepted a =
+        subst (λ (b : List ℕ). Answered t before (Ok (length b)) (copied ++ drop (length b) before)) (sym e)
+        (written_accepted t before fitting _ over a)
 
-pub slice_bounds-write_bytes-end : goal.slice_bounds-write_bytes-end
-slice_bounds-write_bytes-end c =
-    let e = c.answer_text-answer.ensures in
-    sym (length-take-le _ _ (buffered c.args.input.now c.answer_text-answer.new.out _ c.answer_text-answer.result.length e.wrote.next e.wrote.out c.answer_text-answer.auto.out))
+    copied_refused : (q : Refusal) → number_of q ≡ text_status t
+        → Answered t before (refusing q (length bytes)) (copied ++ drop (length bytes) before)
+    copied_refused q a =
+        subst (λ (b : List ℕ). Answered t before (refusing q (length b)) (copied ++ drop (length b) before)) (sym e)
+        (written_refused t before fitting _ over q a)
 
-pub write_bytes-requires : goal.write_bytes-requires
-write_bytes-requires c =
-    let e = c.answer_text-answer.ensures in
-    let b = buffered c.args.input.now c.answer_text-answer.new.out _ c.answer_text-answer.result.length e.wrote.next e.wrote.out c.answer_text-answer.auto.out in
-    omega (arith, length-take-le c.answer_text-answer.result.length c.answer_text-answer.new.out b, c.if-output-n.false)
+pub returns-in-Ok : goal.returns-in-Ok
+returns-in-Ok c =
+    let t = c.args.input.now in
+    let e = buffered t _ _ _ c.as_bytes-text.ensures c.write_answer-answer.ensures.text c.new-buffer.ensures in
+    too_short_lem t c.args.output.now (longer t c.args.output.now _ e c.if-output-n.true) c.in-Ok.ensures.number
 
-pub returns-then-status-eq-ACCEPTED-2 : goal.returns-then-status-eq-ACCEPTED-2
-returns-then-status-eq-ACCEPTED-2 c =
-    let e = c.answer_text-answer.ensures in
-    let w = the_text c.args.input.now c.answer_text-answer.new.out _ c.answer_text-answer.result.length e.wrote.next e.wrote.out c.answer_text-answer.auto.out in
-    written_accepted c.args.input.now c.args.output.now _ _ e.number e.wrote.next c.if-output-n.false
-    c.write_bytes.new.out (c.write_bytes.ensures.out ∙ ap (sets c.args.output.now 0) w) c.if-status-eq-ACCEPTED-2.true
+pub returns-in-Err : goal.returns-in-Err
+returns-in-Err c =
+    let t = c.args.input.now in
+    let e = buffered t _ _ _ c.as_bytes-text.ensures c.write_answer-answer.ensures.text c.new-buffer.ensures in
+    refused t c.args.output.now (longer t c.args.output.now _ e c.if-output-n.true) c.in-Err.status c.in-Err.ensures.number
 
-pub returns : goal.returns
-returns c =
-    let e = c.answer_text-answer.ensures in
-    let w = the_text c.args.input.now c.answer_text-answer.new.out _ c.answer_text-answer.result.length e.wrote.next e.wrote.out c.answer_text-answer.auto.out in
-    written_refused c.args.input.now c.args.output.now _ _ e.number e.wrote.next c.if-output-n.false
-    c.write_bytes.new.out (c.write_bytes.ensures.out ∙ ap (sets c.args.output.now 0) w) c.if-status-eq-ACCEPTED-2.false
+pub returns-in-Ok-answer : goal.returns-in-Ok-answer
+returns-in-Ok-answer c =
+    let t = c.args.input.now in
+    let e = buffered t _ _ _ c.as_bytes-text.ensures c.write_answer-answer.ensures.text c.new-buffer.ensures in
+    copied_accepted t c.args.output.now _ e _ c.copy_from_slice.ensures.after c.if-output-n.false c.in-Ok-answer.ensures.number
+
+pub returns-in-Err-answer : goal.returns-in-Err-answer
+returns-in-Err-answer c =
+    let t = c.args.input.now in
+    let e = buffered t _ _ _ c.as_bytes-text.ensures c.write_answer-answer.ensures.text c.new-buffer.ensures in
+    copied_refused t c.args.output.now _ e _ c.copy_from_slice.ensures.after c.if-output-n.false c.in-Err-answer.status c.in-Err-answer.ensures.number

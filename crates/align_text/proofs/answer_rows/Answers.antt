@@ -1,73 +1,23 @@
--- `align_text::answer_rows` meets its contract: by the alignment's answer, whose parts are written, or whose status is.
-use mathlib.Core.Path.{◌≡◌, refl, sym, ◌∙◌}
-use mathlib.Core.List.{List}
-use Prim.Native.Nat.{ℕ}
-use native.Mathlib.Omega.{arith}
-use lib.ListN.{length, take}
-use lib.Seq.{length-take-le}
-use lib.Ieee.{Float}
-use Rattle.retention_alignment.specs.Call.{Input}
+-- `align_text::answer_rows` meets its contract: by the alignment's answer, whose parts are written if it is accepted.
+use Rattle.std.proofs.Common.{◌≡◌, ℕ, ◌+◌, ◌≤◌, List, ◌++◌, length, sym, ap, ◌∙◌, arith, rules}
+use Rattle.retention_alignment.specs.Call.{Input, held_input}
+use Rattle.retention_alignment.proofs.Rows.{length_rows}
+use Rattle.align_text.specs.AlignText.{columns_text}
 use Rattle.align_text.specs.Ready.{Ready}
-use Rattle.align_text.proofs.Aligning.{refused_is, accepted_is}
-use Rattle.align_text.proofs.Answers.{restated}
+use Rattle.align_text.proofs.Aligning.{not_refused, number_is, max_rts_long, slopes_long, intercepts_long, counts_long, accepted_is}
+use Rattle.align_text.proofs.Longest.{columns_short}
 use Rattle.align_text.proofs.answer_rows.Goals as goal
 
--- the parts that are written of are as long as they are meant to be
-files_in : {A : Type 0} (i : Input) (out : List ℕ) → Ready i out → (l : List A) → length l ≡ 16
-    → length (take i.files l) ≡ i.files
-files_in i out d l e = length-take-le _ l (omega (arith, d.files))
+-- there is room for the answer
+bounded : (i : Input) → Ready i → (text : List ℕ) → text ≡ columns_text i → (n : ℕ) → n + 5650 ≤ 8192
+    → n + length text ≤ 8192
+bounded i d text e n r =
+    let k = length_rows i.file i.peptide i.rt d.peptide d.rt in
+    omega (arith, ap length e, columns_short i d.files d.peptides (omega (arith, k, d.rows)))
 
-rows_in : (i : Input) (out : List ℕ) → Ready i out → (l : List Float) → length l ≡ 256
-    → length (take (length i.file) l) ≡ length i.file
-rows_in i out d l e = length-take-le _ l (omega (arith, d.rows))
-
-pub slice_bounds-max_rt-end : goal.slice_bounds-max_rt-end
-slice_bounds-max_rt-end c = omega (arith, c.global_alignment-answer.auto.max_rt, c.requires.files)
-
-pub slice_bounds-write_accepted-end : goal.slice_bounds-write_accepted-end
-slice_bounds-write_accepted-end c = sym (files_in _ _ c.requires _ c.global_alignment-answer.auto.max_rt)
-
-pub slice_bounds-slope-end : goal.slice_bounds-slope-end
-slice_bounds-slope-end c = omega (arith, c.global_alignment-answer.auto.slope, c.requires.files)
-
-pub slice_bounds-write_accepted-end-in_default : goal.slice_bounds-write_accepted-end-in_default
-slice_bounds-write_accepted-end-in_default c = sym (files_in _ _ c.requires _ c.global_alignment-answer.auto.slope)
-
-pub slice_bounds-intercept-end : goal.slice_bounds-intercept-end
-slice_bounds-intercept-end c = omega (arith, c.global_alignment-answer.auto.intercept, c.requires.files)
-
-pub slice_bounds-write_accepted-end-in_default-2 : goal.slice_bounds-write_accepted-end-in_default-2
-slice_bounds-write_accepted-end-in_default-2 c = sym (files_in _ _ c.requires _ c.global_alignment-answer.auto.intercept)
-
-pub slice_bounds-used-end : goal.slice_bounds-used-end
-slice_bounds-used-end c = omega (arith, c.global_alignment-answer.auto.used, c.requires.files)
-
-pub slice_bounds-write_accepted-end-in_default-3 : goal.slice_bounds-write_accepted-end-in_default-3
-slice_bounds-write_accepted-end-in_default-3 c = sym (files_in _ _ c.requires _ c.global_alignment-answer.auto.used)
-
-pub slice_bounds-aligned-end : goal.slice_bounds-aligned-end
-slice_bounds-aligned-end c = omega (arith, c.global_alignment-answer.auto.aligned, c.requires.rows)
-
-pub slice_bounds-write_accepted-end-in_default-4 : goal.slice_bounds-write_accepted-end-in_default-4
-slice_bounds-write_accepted-end-in_default-4 c = sym (rows_in _ _ c.requires _ c.global_alignment-answer.auto.aligned)
-
-pub write_accepted-length-requires : goal.write_accepted-length-requires
-write_accepted-length-requires c =
-    let d = c.requires in
-    let k = c.global_alignment-answer.auto in
-    let f = files_in _ _ d _ k.max_rt in
-    let r = rows_in _ _ d _ k.aligned in (
-      omega (arith, f, r, d.files, d.rows, d.room),
-      omega (arith, f, d.files),
-      files_in _ _ d _ k.slope ∙ sym f,
-      files_in _ _ d _ k.intercept ∙ sym f,
-      files_in _ _ d _ k.used ∙ sym f,
-    )
-
-pub returns-in_default : goal.returns-in_default
-returns-in_default c =
-    let h =
-    accepted_is _ _ c.requires _ _ _ c.global_alignment-answer.ensures
+pub returns-then-is_err-clause-number : goal.returns-then-is_err-clause-number
+returns-then-is_err-clause-number c =
+    number_is (held_input c.args.observed) c.requires.ready _ _ _ c.global_alignment-answer.ensures.aligned
     (record {
       workspace = omega arith;
       records =
@@ -82,13 +32,11 @@ returns-in_default c =
           };
       aligned = omega arith;
     })
-    c.in_default.is in
-    restated h.0 h.1 (record { number = refl; wrote = c.write_accepted-length.ensures })
 
-pub returns : goal.returns
-returns c =
-    let h =
-    refused_is _ _ c.requires _ _ _ c.global_alignment-answer.ensures
+pub slice_bounds-printed-end : goal.slice_bounds-printed-end
+slice_bounds-printed-end c =
+    sym
+    (max_rts_long (held_input c.args.observed) c.requires.ready _ _ _ c.global_alignment-answer.ensures.aligned
     (record {
       workspace = omega arith;
       records =
@@ -103,5 +51,193 @@ returns c =
           };
       aligned = omega arith;
     })
-    _ c.in-Refused.is in
-    restated h.0 h.1 c.refuse.ensures
+    (not_refused c.global_alignment-answer.result c.if-is_err.ensures.value))
+
+pub slice_bounds-printed-end-2 : goal.slice_bounds-printed-end-2
+slice_bounds-printed-end-2 c =
+    sym
+    (slopes_long (held_input c.args.observed) c.requires.ready _ _ _ c.global_alignment-answer.ensures.aligned
+    (record {
+      workspace = omega arith;
+      records =
+          record {
+            max_rt = omega arith;
+            slope = omega arith;
+            intercept = omega arith;
+            used = omega arith;
+            max_rt_exact = omega arith;
+            slope_exact = omega arith;
+            intercept_exact = omega arith;
+          };
+      aligned = omega arith;
+    })
+    (not_refused c.global_alignment-answer.result c.if-is_err.ensures.value))
+
+pub slice_bounds-printed-end-3 : goal.slice_bounds-printed-end-3
+slice_bounds-printed-end-3 c =
+    sym
+    (intercepts_long (held_input c.args.observed) c.requires.ready _ _ _ c.global_alignment-answer.ensures.aligned
+    (record {
+      workspace = omega arith;
+      records =
+          record {
+            max_rt = omega arith;
+            slope = omega arith;
+            intercept = omega arith;
+            used = omega arith;
+            max_rt_exact = omega arith;
+            slope_exact = omega arith;
+            intercept_exact = omega arith;
+          };
+      aligned = omega arith;
+    })
+    (not_refused c.global_alignment-answer.result c.if-is_err.ensures.value))
+
+pub slice_bounds-printed-end-4 : goal.slice_bounds-printed-end-4
+slice_bounds-printed-end-4 c =
+    sym
+    (counts_long (held_input c.args.observed) c.requires.ready _ _ _ c.global_alignment-answer.ensures.aligned
+    (record {
+      workspace = omega arith;
+      records =
+          record {
+            max_rt = omega arith;
+            slope = omega arith;
+            intercept = omega arith;
+            used = omega arith;
+            max_rt_exact = omega arith;
+            slope_exact = omega arith;
+            intercept_exact = omega arith;
+          };
+      aligned = omega arith;
+    })
+    (not_refused c.global_alignment-answer.result c.if-is_err.ensures.value))
+
+pub invariant_of-printed : goal.invariant_of-printed
+invariant_of-printed c =
+    let m = max_rts_long (held_input c.args.observed) c.requires.ready _ _ _ c.global_alignment-answer.ensures.aligned
+    (record {
+      workspace = omega arith;
+      records =
+          record {
+            max_rt = omega arith;
+            slope = omega arith;
+            intercept = omega arith;
+            used = omega arith;
+            max_rt_exact = omega arith;
+            slope_exact = omega arith;
+            intercept_exact = omega arith;
+          };
+      aligned = omega arith;
+    })
+    (not_refused c.global_alignment-answer.result c.if-is_err.ensures.value) in
+    record {
+      slopes = slopes_long (held_input c.args.observed) c.requires.ready _ _ _ c.global_alignment-answer.ensures.aligned
+          (record {
+            workspace = omega arith;
+            records =
+                record {
+                  max_rt = omega arith;
+                  slope = omega arith;
+                  intercept = omega arith;
+                  used = omega arith;
+                  max_rt_exact = omega arith;
+                  slope_exact = omega arith;
+                  intercept_exact = omega arith;
+                };
+            aligned = omega arith;
+          })
+          (not_refused c.global_alignment-answer.result c.if-is_err.ensures.value) ∙ sym m;
+      intercepts = intercepts_long (held_input c.args.observed) c.requires.ready _ _ _ c.global_alignment-answer.ensures.aligned
+          (record {
+            workspace = omega arith;
+            records =
+                record {
+                  max_rt = omega arith;
+                  slope = omega arith;
+                  intercept = omega arith;
+                  used = omega arith;
+                  max_rt_exact = omega arith;
+                  slope_exact = omega arith;
+                  intercept_exact = omega arith;
+                };
+            aligned = omega arith;
+          })
+          (not_refused c.global_alignment-answer.result c.if-is_err.ensures.value) ∙ sym m;
+      counts = counts_long (held_input c.args.observed) c.requires.ready _ _ _ c.global_alignment-answer.ensures.aligned
+          (record {
+            workspace = omega arith;
+            records =
+                record {
+                  max_rt = omega arith;
+                  slope = omega arith;
+                  intercept = omega arith;
+                  used = omega arith;
+                  max_rt_exact = omega arith;
+                  slope_exact = omega arith;
+                  intercept_exact = omega arith;
+                };
+            aligned = omega arith;
+          })
+          (not_refused c.global_alignment-answer.result c.if-is_err.ensures.value) ∙ sym m;
+      few = omega (arith, m, c.requires.ready.files);
+    }
+
+pub write_accepted-requires : goal.write_accepted-requires
+write_accepted-requires c =
+    let e = accepted_is (held_input c.args.observed) c.requires.ready _ _ _ c.global_alignment-answer.ensures.aligned
+    (record {
+      workspace = omega arith;
+      records =
+          record {
+            max_rt = omega arith;
+            slope = omega arith;
+            intercept = omega arith;
+            used = omega arith;
+            max_rt_exact = omega arith;
+            slope_exact = omega arith;
+            intercept_exact = omega arith;
+          };
+      aligned = omega arith;
+    })
+    (not_refused c.global_alignment-answer.result c.if-is_err.ensures.value) in
+    (search rules, bounded (held_input c.args.observed) c.requires.ready _ e _ c.requires.room)
+
+pub returns-clause-number : goal.returns-clause-number
+returns-clause-number c =
+    sym (not_refused c.global_alignment-answer.result c.if-is_err.ensures.value)
+    ∙ number_is (held_input c.args.observed) c.requires.ready _ _ _ c.global_alignment-answer.ensures.aligned
+    (record {
+      workspace = omega arith;
+      records =
+          record {
+            max_rt = omega arith;
+            slope = omega arith;
+            intercept = omega arith;
+            used = omega arith;
+            max_rt_exact = omega arith;
+            slope_exact = omega arith;
+            intercept_exact = omega arith;
+          };
+      aligned = omega arith;
+    })
+
+pub returns-clause-accepted : goal.returns-clause-accepted
+returns-clause-accepted c =
+    let e = accepted_is (held_input c.args.observed) c.requires.ready _ _ _ c.global_alignment-answer.ensures.aligned
+    (record {
+      workspace = omega arith;
+      records =
+          record {
+            max_rt = omega arith;
+            slope = omega arith;
+            intercept = omega arith;
+            used = omega arith;
+            max_rt_exact = omega arith;
+            slope_exact = omega arith;
+            intercept_exact = omega arith;
+          };
+      aligned = omega arith;
+    })
+    (not_refused c.global_alignment-answer.result c.if-is_err.ensures.value) in
+    c.write_accepted.ensures ∙ ap (λ (x : List ℕ). c.args.out.now ++ x) e

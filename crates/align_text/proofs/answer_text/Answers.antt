@@ -1,85 +1,73 @@
 -- `align_text::answer_text` meets its contract: by what was read, and by the limits.
-use mathlib.Core.Path.{◌≡◌, sym, ◌∙◌}
-use mathlib.Core.Bool.{Bool, true}
-use Prim.Native.Nat.{ℕ}
-use native.Mathlib.Omega.{arith}
-use lib.Seq.{length-take-le}
-use Rattle.align_text.specs.AlignText.{max_files, within_limits}
-use Rattle.align_text.proofs.Answers.{malformed_is, given_by, Within, within, limited_is, aligned_is, restated}
+use Rattle.std.proofs.Common.{◌≡◌, ℕ, List, ◌++◌, sym, ap, ◌∙◌, arith}
+use Rattle.std.specs.Prelude.{⊤, Result, Ok, Err, OnOk}
+use Rattle.status.specs.declared.Refusal.{Refusal}
+use Rattle.align_input.specs.Columns.{held_rows}
+use Rattle.align_text.proofs.Answers.{malformed_is, given_by, limited_is, rows_in}
 use Rattle.align_text.proofs.answer_text.Goals as goal
 
--- the numbers are within the limits
-limited : (f p k : ℕ) (r : Bool) → r ≡ within_limits max_files f p k → r ≡ true → Within f p k
-limited f p k r e h = within f p k (sym e ∙ h)
+-- what an accepted answer appends, by an equal text
+appended : (r : Result ⊤ Refusal) (out after text text' : List ℕ) → text ≡ text' → OnOk r (after ≡ out ++ text)
+    → OnOk r (after ≡ out ++ text')
+appended (Ok x) out after text text' e h = h ∙ ap (λ (t : List ℕ). out ++ t) e
+appended (Err x) out after text text' e h = h
 
-pub returns-in_default : goal.returns-in_default
-returns-in_default c =
-    let h = malformed_is c.args.input.now c.in_default.ensures.answer in
-    restated h.0 h.1 c.refuse.ensures
+pub returns-in_default-clause-number : goal.returns-in_default-clause-number
+returns-in_default-clause-number c = malformed_is c.args.input.now c.in_default.ensures.answer
 
-pub returns-then-not-limits : goal.returns-then-not-limits
-returns-then-not-limits c =
-    let g = given_by c.args.input.now c.in-Read.files c.in-Read.peptides c.in-Read.rows c.in-Read.ensures.answer in
-    let h = limited_is c.args.input.now _ _ _ g (sym c.limits.ensures ∙ c.if-not-limits.true) in
-    restated h.0 h.1 c.refuse-then-not-limits.ensures
+pub returns-then-not-limits-clause-number : goal.returns-then-not-limits-clause-number
+returns-then-not-limits-clause-number c =
+    let z = c.in-Some.sizes in
+    limited_is c.args.input.now z.files z.peptides z.rows (given_by c.args.input.now z c.in-Some.ensures.answer)
+    (sym c.limits.ensures ∙ c.if-not-limits.true)
 
-pub slice_bounds-file-end : goal.slice_bounds-file-end
-slice_bounds-file-end c = omega (arith, (limited c.in-Read.files c.in-Read.peptides c.in-Read.rows c.limits.result c.limits.ensures c.if-not-limits.false).rows, c.read_input.auto.file)
+pub slice_bounds-observed-end : goal.slice_bounds-observed-end
+slice_bounds-observed-end c =
+    (rows_in c.args.input.now c.in-Some.sizes c.in-Some.ensures.answer (sym c.limits.ensures ∙ c.if-not-limits.false)
+    _ (held_rows c.read_input.new.columns) c.read_input.ensures.columns
+    (record { file = omega arith; peptide = omega arith; label = omega arith; q = omega arith; rt = omega arith })).file
 
-pub slice_bounds-answer_rows-end : goal.slice_bounds-answer_rows-end
-slice_bounds-answer_rows-end c = sym (length-take-le _ _ (omega (arith, (limited c.in-Read.files c.in-Read.peptides c.in-Read.rows c.limits.result c.limits.ensures c.if-not-limits.false).rows, c.read_input.auto.file)))
+pub slice_bounds-observed-end-2 : goal.slice_bounds-observed-end-2
+slice_bounds-observed-end-2 c =
+    (rows_in c.args.input.now c.in-Some.sizes c.in-Some.ensures.answer (sym c.limits.ensures ∙ c.if-not-limits.false)
+    _ (held_rows c.read_input.new.columns) c.read_input.ensures.columns
+    (record { file = omega arith; peptide = omega arith; label = omega arith; q = omega arith; rt = omega arith })).peptide
 
-pub slice_bounds-peptide-end : goal.slice_bounds-peptide-end
-slice_bounds-peptide-end c = omega (arith, (limited c.in-Read.files c.in-Read.peptides c.in-Read.rows c.limits.result c.limits.ensures c.if-not-limits.false).rows, c.read_input.auto.peptide)
+pub slice_bounds-observed-end-3 : goal.slice_bounds-observed-end-3
+slice_bounds-observed-end-3 c =
+    (rows_in c.args.input.now c.in-Some.sizes c.in-Some.ensures.answer (sym c.limits.ensures ∙ c.if-not-limits.false)
+    _ (held_rows c.read_input.new.columns) c.read_input.ensures.columns
+    (record { file = omega arith; peptide = omega arith; label = omega arith; q = omega arith; rt = omega arith })).label
 
-pub slice_bounds-answer_rows-end-2 : goal.slice_bounds-answer_rows-end-2
-slice_bounds-answer_rows-end-2 c = sym (length-take-le _ _ (omega (arith, (limited c.in-Read.files c.in-Read.peptides c.in-Read.rows c.limits.result c.limits.ensures c.if-not-limits.false).rows, c.read_input.auto.peptide)))
+pub slice_bounds-observed-end-4 : goal.slice_bounds-observed-end-4
+slice_bounds-observed-end-4 c =
+    (rows_in c.args.input.now c.in-Some.sizes c.in-Some.ensures.answer (sym c.limits.ensures ∙ c.if-not-limits.false)
+    _ (held_rows c.read_input.new.columns) c.read_input.ensures.columns
+    (record { file = omega arith; peptide = omega arith; label = omega arith; q = omega arith; rt = omega arith })).q
 
-pub slice_bounds-label-end : goal.slice_bounds-label-end
-slice_bounds-label-end c = omega (arith, (limited c.in-Read.files c.in-Read.peptides c.in-Read.rows c.limits.result c.limits.ensures c.if-not-limits.false).rows, c.read_input.auto.label)
+pub slice_bounds-observed-end-5 : goal.slice_bounds-observed-end-5
+slice_bounds-observed-end-5 c =
+    (rows_in c.args.input.now c.in-Some.sizes c.in-Some.ensures.answer (sym c.limits.ensures ∙ c.if-not-limits.false)
+    _ (held_rows c.read_input.new.columns) c.read_input.ensures.columns
+    (record { file = omega arith; peptide = omega arith; label = omega arith; q = omega arith; rt = omega arith })).rt
 
-pub slice_bounds-answer_rows-end-3 : goal.slice_bounds-answer_rows-end-3
-slice_bounds-answer_rows-end-3 c = sym (length-take-le _ _ (omega (arith, (limited c.in-Read.files c.in-Read.peptides c.in-Read.rows c.limits.result c.limits.ensures c.if-not-limits.false).rows, c.read_input.auto.label)))
+pub answer_rows-requires-clause-ready : goal.answer_rows-requires-clause-ready
+answer_rows-requires-clause-ready c =
+    (rows_in c.args.input.now c.in-Some.sizes c.in-Some.ensures.answer (sym c.limits.ensures ∙ c.if-not-limits.false)
+    _ (held_rows c.read_input.new.columns) c.read_input.ensures.columns
+    (record { file = omega arith; peptide = omega arith; label = omega arith; q = omega arith; rt = omega arith })).ready
 
-pub slice_bounds-q-end : goal.slice_bounds-q-end
-slice_bounds-q-end c = omega (arith, (limited c.in-Read.files c.in-Read.peptides c.in-Read.rows c.limits.result c.limits.ensures c.if-not-limits.false).rows, c.read_input.auto.q)
+pub returns-clause-number : goal.returns-clause-number
+returns-clause-number c =
+    c.answer_rows.ensures.number
+    ∙ (rows_in c.args.input.now c.in-Some.sizes c.in-Some.ensures.answer (sym c.limits.ensures ∙ c.if-not-limits.false)
+    _ (held_rows c.read_input.new.columns) c.read_input.ensures.columns
+    (record { file = omega arith; peptide = omega arith; label = omega arith; q = omega arith; rt = omega arith })).status
 
-pub slice_bounds-answer_rows-end-4 : goal.slice_bounds-answer_rows-end-4
-slice_bounds-answer_rows-end-4 c = sym (length-take-le _ _ (omega (arith, (limited c.in-Read.files c.in-Read.peptides c.in-Read.rows c.limits.result c.limits.ensures c.if-not-limits.false).rows, c.read_input.auto.q)))
-
-pub slice_bounds-rt-end : goal.slice_bounds-rt-end
-slice_bounds-rt-end c = omega (arith, (limited c.in-Read.files c.in-Read.peptides c.in-Read.rows c.limits.result c.limits.ensures c.if-not-limits.false).rows, c.read_input.auto.rt)
-
-pub slice_bounds-answer_rows-end-5 : goal.slice_bounds-answer_rows-end-5
-slice_bounds-answer_rows-end-5 c = sym (length-take-le _ _ (omega (arith, (limited c.in-Read.files c.in-Read.peptides c.in-Read.rows c.limits.result c.limits.ensures c.if-not-limits.false).rows, c.read_input.auto.rt)))
-
-pub answer_rows-requires : goal.answer_rows-requires
-answer_rows-requires c =
-    let w = limited c.in-Read.files c.in-Read.peptides c.in-Read.rows c.limits.result c.limits.ensures c.if-not-limits.false in
-    let k = c.in-Read.rows in
-    let x = c.read_input.new in
-    let u = c.read_input.auto in
-    let n = length-take-le k x.file (omega (arith, w.rows, u.file)) in
-    record {
-      peptide = length-take-le k x.peptide (omega (arith, w.rows, u.peptide)) ∙ sym n;
-      label = length-take-le k x.label (omega (arith, w.rows, u.label)) ∙ sym n;
-      q = length-take-le k x.q (omega (arith, w.rows, u.q)) ∙ sym n;
-      rt = length-take-le k x.rt (omega (arith, w.rows, u.rt)) ∙ sym n;
-      some_files = w.some_files;
-      files = w.files;
-      peptides = w.peptides;
-      rows = omega (arith, n, w.rows);
-      room = c.requires;
-    }
-
-pub returns : goal.returns
-returns c =
-    let w = limited c.in-Read.files c.in-Read.peptides c.in-Read.rows c.limits.result c.limits.ensures c.if-not-limits.false in
-    let g = given_by c.args.input.now c.in-Read.files c.in-Read.peptides c.in-Read.rows c.in-Read.ensures.answer in
-    let u = c.read_input.auto in
-    let h =
-    aligned_is c.args.input.now _ _ _ g (sym c.limits.ensures ∙ c.if-not-limits.false) _ _ _ _ _ _
-    (c.read_input.ensures.columns g.input g.parsed)
-    (omega (arith, w.rows, u.file)) (omega (arith, w.rows, u.peptide)) (omega (arith, w.rows, u.label)) (omega (arith, w.rows, u.q))
-    (omega (arith, w.rows, u.rt)) in
-    restated h.0 h.1 c.answer_rows.ensures
+pub returns-clause-accepted : goal.returns-clause-accepted
+returns-clause-accepted c =
+    appended c.answer_rows.result _ _ _ _
+    (rows_in c.args.input.now c.in-Some.sizes c.in-Some.ensures.answer (sym c.limits.ensures ∙ c.if-not-limits.false)
+    _ (held_rows c.read_input.new.columns) c.read_input.ensures.columns
+    (record { file = omega arith; peptide = omega arith; label = omega arith; q = omega arith; rt = omega arith })).text
+    c.answer_rows.ensures.accepted

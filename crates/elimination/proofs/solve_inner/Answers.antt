@@ -7,39 +7,7 @@ use lib.Ieee.{Float}
 use Rattle.matrix.specs.Rows.{rows_of}
 use Rattle.matrix.proofs.Laws.{is_flat}
 use Rattle.elimination.specs.Elimination.{echelon, reduce, backfill, left_solved, eliminate}
-use Rattle.elimination.proofs.Shape.{shape_kept}
 use Rattle.elimination.proofs.solve_inner.Goals as goal
-
-pub fill_zero-requires : goal.fill_zero-requires
-fill_zero-requires c = c.requires
-
-pub echelon-requires : goal.echelon-requires
-echelon-requires c =
-    shape_kept c.requires c.fill_zero.auto.cells
-
-pub reduce-requires : goal.reduce-requires
-reduce-requires c =
-    shape_kept c.requires
-    (c.echelon.auto.cells ∙ c.fill_zero.auto.cells)
-
-pub backfill-requires : goal.backfill-requires
-backfill-requires c =
-    shape_kept
-    c.requires
-    (c.reduce.auto.cells ∙ c.echelon.auto.cells ∙ c.fill_zero.auto.cells)
-
-pub left_solved-requires : goal.left_solved-requires
-left_solved-requires c =
-    shape_kept
-    c.requires
-    (c.backfill.auto.cells ∙ c.reduce.auto.cells ∙ c.echelon.auto.cells ∙ c.fill_zero.auto.cells)
-
-pub shape_of-cells : goal.shape_of-cells
-shape_of-cells c =
-    c.backfill.auto.cells
-    ∙ c.reduce.auto.cells
-    ∙ c.echelon.auto.cells
-    ∙ c.fill_zero.auto.cells
 
 pub returns : goal.returns
 unfolding eliminate

@@ -5,6 +5,7 @@ use native.Mathlib.Omega.{arith}
 use lib.IntN.{ℤ, pos, negsuc}
 use mir.Syntax.{w32}
 use mir.Val.{of_z, SFits}
+use borrow.Author.Rules.{rules}
 use borrow.Author.Tests.{eq-eqb, ne_eqb}
 use Rattle.feature.specs.Feature.{trains, is_one}
 use Rattle.feature.proofs.trains.Goals as goal
@@ -21,6 +22,7 @@ pub returns-then-label-eq1 : goal.returns-then-label-eq1
 unfolding trains
 returns-then-label-eq1 c = simp (one c.args.label c.ranges.label c.if-label-eq1.true)
 
-pub returns : goal.returns
+pub returns-else-label-eq1 : goal.returns-else-label-eq1
 unfolding trains
-returns c = simp (other c.args.label c.if-label-eq1.false)
+returns-else-label-eq1 c =
+    let e = other c.args.label c.if-label-eq1.false in search rules

@@ -4,24 +4,17 @@
 use mathlib.Core.Path.{◌≡◌, refl, sym, ap, ◌∙◌}
 use mathlib.Core.List.{List}
 use mathlib.Core.Bool.{Bool}
-use Prim.Native.Nat.{ℕ, ◌+◌, ◌*◌, ◌≤◌}
-use native.Mathlib.Nat.{le-add_right}
-use native.Mathlib.Omega.{arith}
-use lib.ListN.{length, replicate}
+use Prim.Native.Nat.{ℕ, ◌+◌}
+use lib.ListN.{replicate}
 use lib.Ieee.{Float, of_bits, round}
 use Rattle.matrix.specs.Rows.{rows_of}
 use Rattle.float.specs.Number.{zero64}
-use Rattle.elimination.specs.Rows.{Shape, augmented}
+use Rattle.elimination.specs.Rows.{augmented}
 use Rattle.elimination.specs.Elimination.{Tried, eliminate, left_solved}
 use Rattle.elimination.specs.Ridge.{Solution, solved, unsolved, right_side, written}
-use Rattle.gauss.specs.Solve.{solution_of, answer_of}
+use Rattle.gauss.specs.Solve.{solution_of, answer_by}
 use Rattle.elimination.proofs.Ridges.{within_first, within_next, fewer, solves_here, solves_later, none_solves}
-use Rattle.status.specs.Limits.{max_order, max_columns}
 use Rattle.gauss.proofs.first_solved.Goals as goal
-
-shape : (n c : ℕ) (cells : List Float) → n ≤ max_order → c ≤ max_columns → length cells ≡ n * (n + c)
-    → Shape n (n + c) cells
-shape n c cells h k e = record { order = h; wide = omega arith; left = le-add_right n c; count = e }
 
 -- a try on the joined rows: what it leaves, and what it answers
 same_rows : (n c : ℕ) (eps : Float) (rows : List (List Float)) (joined after : List Float) (r : Bool)
@@ -30,39 +23,6 @@ same_rows : (n c : ℕ) (eps : Float) (rows : List (List Float)) (joined after :
     → (rows_of (n + c) n after ≡ eliminate n eps rows) × (r ≡ left_solved n (eliminate n eps rows))
 same_rows n c eps rows joined after r e t =
     (t.rows ∙ ap (eliminate n eps) e, t.solved ∙ ap (λ (z : List (List Float)). left_solved n (eliminate n eps z)) e)
-
-pub loop-eps-init : goal.loop-eps-init
-unfolding solution_of of_bits round
-loop-eps-init c = (within_first, refl, refl, refl)
-
-pub augment-requires : goal.augment-requires
-augment-requires c =
-    (c.loop-eps.invariant.2 ∙ c.requires.cell_count, c.requires.left_count, c.requires.right_count)
-
-pub solve_inner-requires : goal.solve_inner-requires
-solve_inner-requires c =
-    shape c.args.n c.args.c _ c.requires.order c.requires.columns
-    (c.augment.auto.cells ∙ c.loop-eps.invariant.2 ∙ c.requires.cell_count)
-
-pub right_side-requires : goal.right_side-requires
-right_side-requires c = (
-  ap length c.loop-eps.invariant.1 ∙ c.requires.solution_count,
-  c.solve_inner.auto.cells ∙ c.augment.auto.cells
-      ∙ c.loop-eps.invariant.2 ∙ c.requires.cell_count,
-)
-
-pub shape_of-cells-then-solve_inner : goal.shape_of-cells-then-solve_inner
-shape_of-cells-then-solve_inner c =
-    c.zeros.auto.cells
-    ∙ c.solve_inner.auto.cells
-    ∙ c.augment.auto.cells
-    ∙ c.loop-eps.invariant.2
-
-pub shape_of-solution-then-solve_inner : goal.shape_of-solution-then-solve_inner
-shape_of-solution-then-solve_inner c =
-    c.right_side.auto.solution
-    ∙ ap length
-    c.loop-eps.invariant.1
 
 pub returns-then-solve_inner : goal.returns-then-solve_inner
 unfolding of_bits
@@ -86,7 +46,7 @@ returns-then-solve_inner c =
     c.loop-eps.eps c.loop-eps.invariant.0 c.loop-eps-test.true (sym rows.1 ∙ c.if-solve_inner.true))
     ∙ c.loop-eps.invariant.3 in
     record {
-      answer = ap (answer_of 0) is;
+      answer = ap answer_by is;
       cells =
           c.zeros.ensures
           ∙ ap (λ (k : ℕ). replicate k zero64)
@@ -121,12 +81,6 @@ loop-eps-preserved c =
           ∙ c.loop-eps.invariant.3,
     )
 
-pub shape_of-cells : goal.shape_of-cells
-shape_of-cells c = c.zeros-2.auto.cells ∙ c.loop-eps.invariant.2
-
-pub shape_of-solution : goal.shape_of-solution
-shape_of-solution c = ap length c.loop-eps.invariant.1
-
 pub returns : goal.returns
 unfolding of_bits
 returns c =
@@ -137,7 +91,11 @@ returns c =
     c.loop-eps.eps c.loop-eps-test.false)
     ∙ c.loop-eps.invariant.3 in
     record {
-      answer = ap (answer_of 0) is;
+      answer = ap answer_by is;
       cells = c.zeros-2.ensures ∙ ap (λ (k : ℕ). replicate k zero64) c.loop-eps.invariant.2;
       solution = c.loop-eps.invariant.1 ∙ ap (λ (z : Solution). written z c.args.solution.now) is;
     }
+
+pub loop-eps-init : goal.loop-eps-init
+unfolding solution_of of_bits round
+loop-eps-init c = (within_first, refl, refl, refl)

@@ -1,96 +1,70 @@
--- `packed_rows::add_one_row` meets its contract. The loop's invariant: what is left to add to what is there gives
--- what all the columns give, which `one_gained` says.
-use mathlib.Core.Path.{refl, sym, ap, ap₂, ◌∙◌, subst}
+-- `packed_rows::add_one_row` meets its contract: the columns from its own on are added to the row, as `one_gained` says.
+use mathlib.Core.Path.{◌≡◌, sym, ap, ap₂, ◌∙◌, subst}
 use mathlib.Core.List.{List, [], ◌∷◌}
-use Prim.Native.Nat.{ℕ, suc, ◌<◌}
-use native.Mathlib.Numerals.{add-one}
+use Prim.Native.Nat.{ℕ, ◌+◌, ◌-◌, ◌<◌}
 use native.Mathlib.Omega.{arith}
-use lib.ListN.{length, get_or, drop, drop_of_length-le}
-use lib.Seq.{drop-cons}
-use lib.Ieee.{Float, nan}
-use Rattle.packed_rows.specs.Added.{columns_added, Gained}
-use Rattle.packed_rows.proofs.Places.{values_long}
-use Rattle.packed_rows.proofs.Begun.{in_starts, cell_fits, one_gained}
+use lib.ListN.{length, get_or, drop, length-drop}
+use lib.Seq.{take_all}
+use lib.Ieee.{Float}
+use Rattle.std.specs.List.{All}
+use Rattle.std.proofs.lemmas.List.Elements.{All-same}
+use Rattle.packed_rows.specs.Added.{columns_added, rows_at, Gained}
+use Rattle.packed_rows.specs.declared.Row.{Row}
+use Rattle.packed_rows.proofs.Places.{values_long, all_part}
+use Rattle.packed_rows.proofs.Begun.{in_starts, rows_fit, one_gained}
 use Rattle.packed_rows.proofs.add_one_row.Goals as goal
 
-pub base-row-requires : goal.base-row-requires
-base-row-requires c =
+pub row_at-requires : goal.row_at-requires
+row_at-requires c =
     let a = c.args in
     let g = c.requires.1 in
-    in_starts c.requires.0 a.acc.now g.whole a.places.now a.values.now g.listed a.starts.now
-    g.firsts a.m c.requires.2 c.requires.3
+    let long = values_long 0 c.requires.0 a.places.now a.values.now g.listed in
+    record {
+      m_in_bounds = (c.requires.2, omega (arith, c.requires.2, long));
+      start = in_starts c.requires.0 a.acc.now g.whole a.places.now a.values.now g.listed a.starts.now
+          g.firsts a.m c.requires.2 c.requires.3;
+    }
 
-pub bounds-values-m : goal.bounds-values-m
-bounds-values-m c =
+pub slice_bounds-add_columns-count-2 : goal.slice_bounds-add_columns-count-2
+slice_bounds-add_columns-count-2 c =
     let a = c.args in
     omega (arith, c.requires.2, values_long 0 c.requires.0 a.places.now a.values.now c.requires.1.listed)
 
-pub loop-p-init : goal.loop-p-init
-loop-p-init c = (omega arith, omega (arith, c.requires.2), refl, refl)
+pub slice_bounds-add_columns-start-2 : goal.slice_bounds-add_columns-start-2
+slice_bounds-add_columns-start-2 c =
+    let a = c.args in
+    omega (arith, c.requires.2, values_long 0 c.requires.0 a.places.now a.values.now c.requires.1.listed)
 
-pub overflow_add-row : goal.overflow_add-row
-overflow_add-row c =
+pub add_columns-requires : goal.add_columns-requires
+add_columns-requires c =
     let a = c.args in
     let g = c.requires.1 in
-    let l = c.loop-p in
-    let f =
-    cell_fits c.requires.0 a.acc.now g.whole a.places.now a.values.now g.listed a.starts.now g.firsts a.m c.requires.2
-    c.requires.3 l.p l.invariant.0 (omega arith) in
-    omega (arith, c.base-row.ensures, f)
-
-pub bounds-values-p : goal.bounds-values-p
-bounds-values-p c =
-    let a = c.args in
-    omega (arith, values_long 0 c.requires.0 a.places.now a.values.now c.requires.1.listed)
-
-pub add_cell-requires : goal.add_cell-requires
-add_cell-requires c =
-    let a = c.args in
-    let g = c.requires.1 in
-    let l = c.loop-p in
-    let f =
-    cell_fits c.requires.0 a.acc.now g.whole a.places.now a.values.now g.listed a.starts.now g.firsts a.m c.requires.2
-    c.requires.3 l.p l.invariant.0 (omega arith) in
-    omega (arith, l.invariant.2, c.base-row.ensures, f)
-
-pub loop-p-smaller : goal.loop-p-smaller
-loop-p-smaller c = omega arith
-
-pub loop-p-preserved : goal.loop-p-preserved
-loop-p-preserved c =
-    let l = c.loop-p in
-    let a = c.args in
     let places = a.places.now in
-    let values = a.values.now in
-    let more = columns_added ((c.base-row.result, get_or values a.m nan) ∷ []) in
-    let h : l.p < length values = omega (arith, values_long 0 c.requires.0 places values c.requires.1.listed) in (
-      omega (arith, l.invariant.0),
-      omega arith,
-      c.add_cell.auto.acc ∙ l.invariant.2,
-      rw (add-one l.p)
-          (ap (more (drop (suc l.p) places) (drop (suc l.p) values)) c.add_cell.ensures
-          ∙ sym
-          (ap₂ (λ (ps : List ℕ) (vs : List Float). more ps vs l.acc)
-          (drop-cons places l.p 0 (omega arith)) (drop-cons values l.p nan h))
-          ∙ l.invariant.3),
-    )
-
-pub shape_of-acc : goal.shape_of-acc
-shape_of-acc c = c.loop-p.invariant.2
+    let reach : ℕ → Row → Type 0 = λ k x. x.base + k < length a.acc.now in
+    let row : List Row = c.row_at.result ∷ [] in
+    let one : row ≡ rows_at places a.values.now a.starts.now 1 a.m = ap (λ (x : Row). x ∷ []) c.row_at.ensures in
+    all_part (λ k. All (reach k) row) a.m (length places - a.m) places (omega (arith, c.requires.2))
+    (λ r l o.
+    All-same (reach (get_or places r 0)) row (rows_at places a.values.now a.starts.now 1 a.m) one
+    (rows_fit c.requires.0 a.acc.now g.whole places a.values.now g.listed a.starts.now g.firsts 1 a.m r (omega arith)
+    (omega arith)
+    (λ i d e.
+    let same : get_or places i 0 ≡ get_or places a.m 0 = ap (λ (k : ℕ). get_or places k 0) (omega arith) in
+    omega (arith, same, c.requires.3))))
 
 pub returns : goal.returns
 returns c =
-    let l = c.loop-p in
     let a = c.args in
     let places = a.places.now in
     let values = a.values.now in
-    let row : ℕ → List (ℕ × Float) = λ k. (k, get_or values a.m nan) ∷ [] in
+    let row : List Row = c.row_at.result ∷ [] in
+    let one : row ≡ rows_at places values a.starts.now 1 a.m = ap (λ (x : Row). x ∷ []) c.row_at.ensures in
     λ ext g h.
     subst (Gained ext _ _ a.acc.now)
     (sym
-    (ap (λ (ps : List ℕ). columns_added (row c.base-row.result) ps (drop l.p values) l.acc)
-    (sym (drop_of_length-le places {i = l.p} (omega arith)))
-    ∙ l.invariant.3
-    ∙ ap (λ (k : ℕ). columns_added (row k) (drop a.m places) (drop a.m values) a.acc.now) c.base-row.ensures))
-    (one_gained ext a.acc.now g.whole places values g.listed a.starts.now g.firsts a.m
-    c.requires.2 h)
+    (c.add_columns.ensures
+    ∙ ap₂ (λ (ps : List ℕ) (vs : List Float). columns_added row ps vs a.acc.now)
+    (take_all (length places - a.m) (drop a.m places) (rw length-drop (omega arith)))
+    (take_all (length values - a.m) (drop a.m values) (rw length-drop (omega arith)))
+    ∙ ap (λ (rs : List Row). columns_added rs (drop a.m places) (drop a.m values) a.acc.now) one))
+    (one_gained ext a.acc.now g.whole places values g.listed a.starts.now g.firsts a.m c.requires.2 h)

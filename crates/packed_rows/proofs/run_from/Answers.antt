@@ -5,7 +5,6 @@ use Prim.Native.Nat.{ℕ, ◌-◌, ◌≤◌, ◌<◌}
 use native.Mathlib.Omega.{arith}
 use lib.ListN.{length, get_or}
 use Rattle.packed_rows.specs.Added.{RunLong, RunFrom}
-use borrow.Author.Tests.{eqb-true}
 use Rattle.packed_rows.proofs.run_from.Goals as goal
 
 run_is : (w : ℕ) (places : List ℕ) (k : ℕ) → RunLong k → k ≤ length places
@@ -23,7 +22,7 @@ returns-then-w-places-eq8 c =
     let places = c.args.places.now in
     let p = c.requires (length places - 8) (omega arith) in
     run_is c.args.w places 8 (record { four = omega arith; eight = omega arith; even = omega arith }) (omega arith)
-    (eqb-true (c.args.w - get_or places (length places - 8) 0) 8 c.if-w-places-eq8.true-raw) p
+    (omega arith) p
 
 pub overflow_sub-w-then-n-ge6 : goal.overflow_sub-w-then-n-ge6
 overflow_sub-w-then-n-ge6 c =
@@ -34,7 +33,7 @@ returns-then-w-places-eq6 c =
     let places = c.args.places.now in
     let p = c.requires (length places - 6) (omega arith) in
     run_is c.args.w places 6 (record { four = omega arith; eight = omega arith; even = omega arith }) (omega arith)
-    (eqb-true (c.args.w - get_or places (length places - 6) 0) 6 c.if-w-places-eq6.true-raw) p
+    (omega arith) p
 
 pub overflow_sub-w-then-n-ge4 : goal.overflow_sub-w-then-n-ge4
 overflow_sub-w-then-n-ge4 c =
@@ -45,4 +44,4 @@ returns-then-w-places-eq4 c =
     let places = c.args.places.now in
     let p = c.requires (length places - 4) (omega arith) in
     run_is c.args.w places 4 (record { four = omega arith; eight = omega arith; even = omega arith }) (omega arith)
-    (eqb-true (c.args.w - get_or places (length places - 4) 0) 4 c.if-w-places-eq4.true-raw) p
+    (omega arith) p

@@ -1,71 +1,53 @@
--- `peptide::check_offsets` meets its contract. The loop's invariant: the offsets from i on, after the one at `start`,
--- give what the whole gives.
-use mathlib.Core.Path.{sym, ◌∙◌}
-use Prim.Native.Nat.{◌+◌, ◌≤◌, ◌<◌}
-use native.Mathlib.Omega.{arith}
-use lib.ListN.{get_or}
-use borrow.Author.Rules.{rules}
-use borrow.Author.Tests.{le-leb, lt-leb, eq-eqb, ne_eqb}
-use Rattle.status.specs.Limits.{max_letters}
-use Rattle.peptide.proofs.Laws.{offsets_head, offsets_none, climbs_step, climbs_done}
+-- `peptide::check_offsets` meets its contract. The loop's invariant: the offsets that are left, after the one at
+-- `start`, give what all after the first give.
+use Rattle.std.proofs.Common.{◌≢◌, get_or, ◌∙◌, sym, arith, ◌+◌}
+use borrow.Author.Tests.{le-leb, lt-leb}
+use Rattle.peptide.proofs.Laws.{rest, get_or_rest, offsets_rest, first_wrong, count_wrong, offsets_none, climbs_step, climbs_done}
 use Rattle.peptide.proofs.check_offsets.Goals as goal
 
-pub returns-then-offsets-lt1 : goal.returns-then-offsets-lt1
-returns-then-offsets-lt1 c = let p = c.args in sym (offsets_none p.peptides p.letters p.offsets.now c.if-offsets-lt1.true)
+pub returns-in_default : goal.returns-in_default
+returns-in_default c = sym (offsets_none c.args.peptides c.args.letters c.args.offsets.now c.in_default.len_below)
 
-pub returns-then-offsets-peptides : goal.returns-then-offsets-peptides
-returns-then-offsets-peptides c =
+pub returns-in_default-2 : goal.returns-in_default-2
+returns-in_default-2 c =
     let p = c.args in
-    sym
-    (rw (ne_eqb _ _ c.if-offsets-peptides.true) at (offsets_head p.peptides p.letters p.offsets.now c.if-offsets-lt1.false))
+    let first : get_or p.offsets.now 0 0 ≢ 0 = omega arith in
+    sym (first_wrong p.peptides p.letters p.offsets.now c.in_default.len_at_least first)
 
-pub overflow_cast-start : goal.overflow_cast-start
-overflow_cast-start c = omega (arith, c.type_inv.offsets 0)
-
-pub returns-then-start-ne0 : goal.returns-then-start-ne0
-returns-then-start-ne0 c =
+pub returns-then-rest-peptides : goal.returns-then-rest-peptides
+returns-then-rest-peptides c =
     let p = c.args in
-    sym
-    (rw (eq-eqb _ _ c.if-offsets-peptides.false, ne_eqb _ _ c.if-start-ne0.true) at (offsets_head p.peptides p.letters p.offsets.now c.if-offsets-lt1.false))
-
-pub loop-i-init : goal.loop-i-init
-loop-i-init c =
-    let p = c.args in (
-      c.if-offsets-lt1.false,
-      omega (arith, c.if-start-ne0.false),
-      sym
-          (rw (eq-eqb _ _ c.if-offsets-peptides.false, eq-eqb _ _ c.if-start-ne0.false) at (offsets_head p.peptides p.letters p.offsets.now c.if-offsets-lt1.false)),
-    )
-
-pub overflow_cast-next : goal.overflow_cast-next
-overflow_cast-next c = omega (arith, c.type_inv.offsets c.loop-i.i)
+    sym (count_wrong p.peptides p.letters p.offsets.now c.in-0.len_at_least c.if-rest-peptides.true)
 
 pub returns-then-next-start : goal.returns-then-next-start
 returns-then-next-start c =
     let p = c.args in
-    let falls : get_or p.offsets.now c.loop-i.i 0 < c.loop-i.start = omega (arith, c.if-next-start.true) in
-    sym
-    (sym c.loop-i.invariant.2 ∙ rw (lt-leb _ _ falls) at (climbs_step c.loop-i.start p.letters c.loop-i.i p.offsets.now (search rules)))
+    let l = c.loop-offset in
+    sym (rw (lt-leb _ _ c.if-next-start.true) at (climbs_step l.start p.letters l.offset-index (rest p.offsets.now) c.loop-offset-test.true))
+    ∙ l.invariant.climbs
+    ∙ offsets_rest p.peptides p.letters p.offsets.now c.in-0.len_at_least (omega arith) c.if-rest-peptides.false
 
 pub returns-then-start-next : goal.returns-then-start-next
 returns-then-start-next c =
     let p = c.args in
-    let rises : c.loop-i.start ≤ get_or p.offsets.now c.loop-i.i 0 = omega (arith, c.if-next-start.false) in
-    let long : c.loop-i.start + max_letters < get_or p.offsets.now c.loop-i.i 0 = omega (arith, c.if-start-next.true) in
+    let l = c.loop-offset in
     sym
-    (sym c.loop-i.invariant.2 ∙ rw (le-leb _ _ rises, lt-leb _ _ long) at (climbs_step c.loop-i.start p.letters c.loop-i.i p.offsets.now (search rules)))
+    (rw (le-leb _ _ c.if-next-start.false, lt-leb _ _ c.if-start-next.true) at (climbs_step l.start p.letters l.offset-index (rest p.offsets.now) c.loop-offset-test.true))
+    ∙ l.invariant.climbs
+    ∙ offsets_rest p.peptides p.letters p.offsets.now c.in-0.len_at_least (omega arith) c.if-rest-peptides.false
 
-pub loop-i-preserved : goal.loop-i-preserved
-loop-i-preserved c =
+pub loop-offset-preserved : goal.loop-offset-preserved
+loop-offset-preserved c =
     let p = c.args in
-    let rises : c.loop-i.start ≤ get_or p.offsets.now c.loop-i.i 0 = omega (arith, c.if-next-start.false) in
-    let short : get_or p.offsets.now c.loop-i.i 0 ≤ c.loop-i.start + max_letters = omega (arith, c.if-start-next.false) in (
-      search rules,
-      omega (arith, c.type_inv.offsets c.loop-i.i),
-      sym (rw (le-leb _ _ rises, le-leb _ _ short) at (climbs_step c.loop-i.start p.letters c.loop-i.i p.offsets.now (search rules))) ∙ c.loop-i.invariant.2,
-    )
+    let l = c.loop-offset in record {
+      fits = omega (arith, get_or_rest p.offsets.now l.offset-index, c.type_inv.offsets (1 + l.offset-index));
+      climbs = sym (rw (le-leb _ _ c.if-next-start.false, le-leb _ _ c.if-start-next.false) at (climbs_step l.start p.letters l.offset-index (rest p.offsets.now) c.loop-offset-test.true)) ∙ l.invariant.climbs;
+    }
 
 pub returns : goal.returns
 returns c =
     let p = c.args in
-    sym (climbs_done c.loop-i.start p.letters c.loop-i.i p.offsets.now (search rules)) ∙ c.loop-i.invariant.2
+    let l = c.loop-offset in
+    sym (climbs_done l.start p.letters l.offset-index (rest p.offsets.now) c.loop-offset-test.false)
+    ∙ l.invariant.climbs
+    ∙ offsets_rest p.peptides p.letters p.offsets.now c.in-0.len_at_least (omega arith) c.if-rest-peptides.false

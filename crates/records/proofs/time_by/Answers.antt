@@ -1,16 +1,22 @@
--- `records::time_by` meets its contract: a case for each thing that a lookup finds.
+-- `records::time_by` meets its contract: what was found decides.
 use mathlib.Core.Path.{sym, ap, ◌∙◌}
+use lib.Ieee.{Float}
+use Rattle.std.specs.Prelude.{Result, Ok}
+use Rattle.std.proofs.lemmas.Result.{err_from_is_err_and}
+use Rattle.status.specs.declared.Refusal.{Refusal}
+use Rattle.rt_matrix.specs.declared.Alignment.{Alignment}
 use Rattle.records.specs.Record.{time_by}
-use Rattle.records.specs.declared.AlignedTime.TheVariants.{At}
-use Rattle.records.specs.declared.Found.{Found}
 use Rattle.records.proofs.Calls.{timed}
 use Rattle.records.proofs.time_by.Goals as goal
 
-pub returns-in-At : goal.returns-in-At
-returns-in-At c =
-    timed _ c.args.rt _
-    (ap At c.aligned_time.ensures ∙ sym (ap (λ (f : Found). time_by f c.args.rt) c.in-At.is))
+pub returns-in_err-a : goal.returns-in_err-a
+returns-in_err-a c =
+    let p = err_from_is_err_and c.from_residual.result c.from_residual.ensures.1 in
+    rw (p.1, p.2)
+    (timed _ c.args.rt _ (sym (ap (λ (f : Result Alignment Refusal). time_by f c.args.rt) c.in_err-a.was)))
 
-pub returns-in-Refused : goal.returns-in-Refused
-returns-in-Refused c =
-    timed _ c.args.rt _ (sym (ap (λ (f : Found). time_by f c.args.rt) c.in-Refused.is))
+pub returns : goal.returns
+returns c =
+    timed _ c.args.rt _
+    (ap (λ (t : Float). Ok t) c.aligned_time.ensures
+    ∙ sym (ap (λ (f : Result Alignment Refusal). time_by f c.args.rt) c.in_ok-a.was))

@@ -18,6 +18,3 @@ abbrev pub invariant-loop-j : goal.invariant-loop-j
 invariant-loop-j l =
     let v : ℕ = length l.ext in
     MadeIn (v - 1) (falling_rows v (v - 1)) (falling_start v) (scaled l.ext) l.initial.acc l.acc l.start l.j
-
-abbrev pub decreases-loop-j : goal.decreases-loop-j
-decreases-loop-j l = length l.ext - l.j

@@ -8,6 +8,7 @@ use native.Mathlib.Nat.{mul-one}
 use native.Mathlib.Omega.{arith}
 use lib.ListN.{length, take, length-take}
 use lib.Ieee.{Float, binary64, mul, le, of_bits, round}
+use Rattle.std.specs.Prelude.{Some}
 use Rattle.matrix.specs.Rows.{rows_of}
 use Rattle.float.specs.Number.{one64}
 use Rattle.elimination.specs.Elimination.{eliminate}
@@ -16,7 +17,6 @@ use Rattle.packed_rows.specs.Falling.{falling_rows}
 use Rattle.regression.specs.Triangle.{unfolded}
 use Rattle.regression.specs.Workspace.{workspace_cells, system_length, equations}
 use Rattle.regression.specs.Solve.{Attempted, Found, solution_in}
-use Rattle.regression.specs.declared.FirstRidge.TheVariants.{Solves}
 use Rattle.elimination.proofs.Ridges.{within_first, within_next, fewer, solves_here, solves_later, none_solves}
 use Rattle.regression.proofs.Workspace.{two_parts}
 use Rattle.regression.proofs.first_solved.Goals as goal
@@ -32,7 +32,7 @@ module _ (d : ℕ) (ws₀ ws ws₁ beta₀ beta : List Float) (eps : Float) (spl
   -- it solved the system
   found : (beta₁ : List Float) → split ≡ system_length d → r ≡ true
       → beta₁ ≡ right_side d (rows_of (d + 1) d (take split ws₁))
-      → Found (solution_in d ws₀) beta₀ beta₁ (Solves eps)
+      → Found (solution_in d ws₀) beta₀ beta₁ (Some eps)
   found beta₁ h t copied =
       let right : beta₁ ≡ right_side d (eliminate d eps (equations d ws₀)) =
       copied ∙ rw (h, tried.system, rows) in
@@ -60,19 +60,6 @@ pub loop-eps-init : goal.loop-eps-init
 unfolding of_bits round
 loop-eps-init c = (refl, refl, refl, within_first, refl)
 
-pub attempt-requires : goal.attempt-requires
-attempt-requires c =
-    let room = c.requires.0 in
-    record { order = room.order; count = c.loop-eps.invariant.0 ∙ room.count }
-
-pub slice_bounds-right_side-end : goal.slice_bounds-right_side-end
-slice_bounds-right_side-end c =
-    let l = c.loop-eps in
-    let f =
-    fits c.args.d c.system_length-split.result c.args.workspace.now l.workspace c.attempt.new.workspace
-    c.system_length-split.ensures c.requires.0.count l.invariant.0 c.attempt.auto.workspace in
-    omega (arith, f)
-
 pub slice_bounds-right_side-end-then-attempt : goal.slice_bounds-right_side-end-then-attempt
 slice_bounds-right_side-end-then-attempt c =
     let l = c.loop-eps in
@@ -90,9 +77,6 @@ right_side-requires c =
       ap length l.invariant.2 ∙ c.requires.1 ∙ sym (mul-one _),
       simp length-take (omega (arith, f, c.system_length-split.ensures)),
     )
-
-pub shape_of-beta-then-attempt : goal.shape_of-beta-then-attempt
-shape_of-beta-then-attempt c = c.right_side.auto.solution ∙ ap length c.loop-eps.invariant.2
 
 pub returns-then-attempt : goal.returns-then-attempt
 unfolding of_bits

@@ -18,7 +18,6 @@ use Rattle.regression.specs.Sparse.{SplitRow}
 use Rattle.packed_rows.proofs.Places.{Next, none_left}
 use Rattle.packed_rows.proofs.Places.{Left, left_none, next_left, left_next, values_long, value_at_lem}
 use Rattle.regression.proofs.Dot.{products_sum, products_split, summed, summed_next, summed_zeros}
-use borrow.Author.Rules.{rules}
 use Rattle.regression.proofs.predict_listed.Goals as goal
 
 -- the places that are left, as those of the cells behind the first h
@@ -60,7 +59,6 @@ loop-p-init c =
     let beta = a.beta.now in
     let n = length head in
     let e = c.sum_products-sum.ensures in (
-      search rules,
       subst Sum (sym e) (products_sum head beta zero64 sum_starts),
       λ row g. (
         n,
@@ -78,7 +76,7 @@ offset_bounds-values-p c =
     let a = c.args in
     let l = c.loop-p in
     let g = c.requires.split_row in
-    let m = l.invariant.2 g.0 g.1 in
+    let m = l.invariant.1 g.0 g.1 in
     let n = within a.head.now a.places.now a.values.now a.beta.now g.0 g.1 l.p m.0 m.1 (omega arith) in
     omega (arith, n.0, n.1)
 
@@ -87,43 +85,25 @@ bounds-values-p c =
     let a = c.args in
     let l = c.loop-p in
     let g = c.requires.split_row in
-    let m = l.invariant.2 g.0 g.1 in
+    let m = l.invariant.1 g.0 g.1 in
     let n = within a.head.now a.places.now a.values.now a.beta.now g.0 g.1 l.p m.0 m.1 (omega arith) in
     omega (arith, n.0, n.1)
 
-pub offset_bounds-places-p : goal.offset_bounds-places-p
-offset_bounds-places-p c =
+pub offset_bounds-beta-place : goal.offset_bounds-beta-place
+offset_bounds-beta-place c =
     let a = c.args in
     let l = c.loop-p in
     let g = c.requires.split_row in
-    let m = l.invariant.2 g.0 g.1 in
+    let m = l.invariant.1 g.0 g.1 in
     let n = within a.head.now a.places.now a.values.now a.beta.now g.0 g.1 l.p m.0 m.1 (omega arith) in
     omega (arith, n.0, n.1)
 
-pub bounds-places-p : goal.bounds-places-p
-bounds-places-p c =
+pub bounds-beta-place : goal.bounds-beta-place
+bounds-beta-place c =
     let a = c.args in
     let l = c.loop-p in
     let g = c.requires.split_row in
-    let m = l.invariant.2 g.0 g.1 in
-    let n = within a.head.now a.places.now a.values.now a.beta.now g.0 g.1 l.p m.0 m.1 (omega arith) in
-    omega (arith, n.0, n.1)
-
-pub offset_bounds-beta-places : goal.offset_bounds-beta-places
-offset_bounds-beta-places c =
-    let a = c.args in
-    let l = c.loop-p in
-    let g = c.requires.split_row in
-    let m = l.invariant.2 g.0 g.1 in
-    let n = within a.head.now a.places.now a.values.now a.beta.now g.0 g.1 l.p m.0 m.1 (omega arith) in
-    omega (arith, n.0, n.1)
-
-pub bounds-beta-places : goal.bounds-beta-places
-bounds-beta-places c =
-    let a = c.args in
-    let l = c.loop-p in
-    let g = c.requires.split_row in
-    let m = l.invariant.2 g.0 g.1 in
+    let m = l.invariant.1 g.0 g.1 in
     let n = within a.head.now a.places.now a.values.now a.beta.now g.0 g.1 l.p m.0 m.1 (omega arith) in
     omega (arith, n.0, n.1)
 
@@ -138,10 +118,9 @@ loop-p-preserved c =
     let finite = c.requires.beta_value in
     let q : ℕ = get_or places l.p 0 in
     let x : Float = mul binary64 (get_or values l.p nan) (get_or beta q nan) in (
-      omega arith,
-      sum_next l.sum x l.invariant.1 (mul-fits binary64 (get_or values l.p nan) (get_or beta q nan)),
+      sum_next l.sum x l.invariant.0 (mul-fits binary64 (get_or values l.p nan) (get_or beta q nan)),
       λ row g.
-          let m = l.invariant.2 row g in
+          let m = l.invariant.1 row g in
           let u : ℕ = m.0 in
           let n = turn head places values beta row g l.p u m.1 (omega arith) in
           let same : q - 0 ≡ q = omega arith in
@@ -161,7 +140,7 @@ loop-p-preserved c =
                 (add binary64 l.sum (mul binary64 (get_or row q nan) (get_or beta q nan))) (suc k))
                 same
                 ∙ sym
-                (summed_zeros row beta finite wide (q - u) u l.sum l.invariant.1
+                (summed_zeros row beta finite wide (q - u) u l.sum l.invariant.0
                 (omega (arith, n.from, n.within)) (λ i a b. n.zeros i a (omega (arith, n.from)))
                 ∙ ap (summed row beta finite wide l.sum) e
                 ∙ summed_next row beta finite wide l.sum q (omega (arith, n.within)))
@@ -176,7 +155,7 @@ returns c =
     let ps = c.args.places.now in
     let bs = c.args.beta.now in
     λ row g.
-    let m = l.invariant.2 row g in
+    let m = l.invariant.1 row g in
     let u : ℕ = m.0 in
     let n : ℕ = length row in
     let wide : length row ≡ length bs = g.wide in
@@ -185,7 +164,7 @@ returns c =
     rw (drop_of_length-le row {i = n} (omega arith)) in
     c.canonical64.ensures
     ∙ sym
-    (summed_zeros row bs c.requires.beta_value wide (n - u) u l.sum l.invariant.1 (omega (arith, m.3))
+    (summed_zeros row bs c.requires.beta_value wide (n - u) u l.sum l.invariant.0 (omega (arith, m.3))
     (λ i a b. none_left 0 u row none i a (omega (arith, m.3)))
     ∙ ap (summed row bs c.requires.beta_value wide l.sum) {x = u + (n - u)} {y = n} (omega (arith, m.3))
     ∙ end)

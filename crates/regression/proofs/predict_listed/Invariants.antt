@@ -3,7 +3,7 @@
 -- from u on.
 use mathlib.Core.Path.{◌≡◌}
 use mathlib.Core.List.{List, zip_with}
-use Prim.Native.Nat.{ℕ, ◌-◌, ◌≤◌}
+use Prim.Native.Nat.{ℕ, ◌≤◌}
 use lib.ListN.{length, drop}
 use lib.Ieee.{Float, binary64, mul}
 use Rattle.float.specs.Number.{sum_from}
@@ -15,11 +15,7 @@ use Rattle.regression.proofs.predict_listed.Given as goal
 
 abbrev pub invariant-loop-p : goal.invariant-loop-p
 invariant-loop-p l =
-    (l.p ≤ length l.places)
-    × Sum l.sum
+    Sum l.sum
     × ((row : List Float) → (g : SplitRow (length l.beta) l.head l.places l.values row)
     → (u : ℕ) × Left 0 row l.places l.p u × (length l.head ≤ u) × (u ≤ length row)
     × (sum_from l.sum (zip_with (mul binary64) (drop u row) (drop u l.beta)) ≡ dot row l.beta))
-
-abbrev pub decreases-loop-p : goal.decreases-loop-p
-decreases-loop-p l = length l.places - l.p

@@ -31,20 +31,19 @@ one_more starts w j start h e before i l = by (dec_le (suc i) j)
 
 pub loop-j-init : goal.loop-j-init
 unfolding falling_start
-loop-j-init c = (search rules, refl, search rules, refl, λ i h. absurd (not-suc-le-zero h))
+loop-j-init c = (refl, search rules, refl, λ i h. absurd (not-suc-le-zero h))
 
 pub loop-j-preserved : goal.loop-j-preserved
 loop-j-preserved c =
     let l = c.loop-j in
     let d = c.args.d in (
+      rw (add-one l.j) (ap (λ (k : ℕ). k + (d + 1 - l.j)) l.invariant.0 ∙ sym (start_next (d + 1) l.j)),
       omega arith,
-      rw (add-one l.j) (ap (λ (k : ℕ). k + (d + 1 - l.j)) l.invariant.1 ∙ sym (start_next (d + 1) l.j)),
-      omega arith,
-      simp length-set l.invariant.3,
-      one_more l.starts (d + 1) l.j l.start (omega arith) l.invariant.1 l.invariant.4,
+      simp length-set l.invariant.2,
+      one_more l.starts (d + 1) l.j l.start (omega arith) l.invariant.0 l.invariant.3,
     )
 
 pub returns : goal.returns
 returns c =
     let l = c.loop-j in
-    record { enough = omega arith; at = λ j h. l.invariant.4 j (omega arith) }
+    record { enough = omega arith; at = λ j h. l.invariant.3 j (omega arith) }

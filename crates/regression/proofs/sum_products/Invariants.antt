@@ -2,17 +2,11 @@
 -- left is the whole sum.
 use mathlib.Core.Path.{◌≡◌}
 use mathlib.Core.List.{zip_with}
-use Prim.Native.Nat.{◌≤◌, ◌-◌}
-use lib.ListN.{length, drop}
+use lib.ListN.{drop}
 use lib.Ieee.{binary64, mul}
 use Rattle.float.specs.Number.{sum_from}
 use Rattle.regression.specs.Regression.{dot}
 use Rattle.regression.proofs.sum_products.Given as goal
 
 abbrev pub invariant-loop-k : goal.invariant-loop-k
-invariant-loop-k l =
-    (l.k ≤ length l.row)
-    × (sum_from l.sum (zip_with (mul binary64) (drop l.k l.row) (drop l.k l.beta)) ≡ dot l.row l.beta)
-
-abbrev pub decreases-loop-k : goal.decreases-loop-k
-decreases-loop-k l = length l.row - l.k
+invariant-loop-k l = sum_from l.sum (zip_with (mul binary64) (drop l.k l.row) (drop l.k l.beta)) ≡ dot l.row l.beta

@@ -1,9 +1,6 @@
--- `retention_alignment::align_rows` meets its contract. The loop's invariant: the first i rows' times are written
--- (`up_to i`), and the length is as it was.
+-- The loop's invariant: the first i rows' times are written (`up_to i`).
 use mathlib.Core.Path.{◌≡◌}
-use mathlib.Core.List.{List, map}
-use Prim.Native.Nat.{ℕ, ◌-◌, ◌≤◌}
-use lib.ListN.{length}
+use mathlib.Core.List.{map}
 use Rattle.matrix.proofs.Lists.{over}
 use Rattle.rt_matrix.proofs.Lists.{up_to}
 use Rattle.retention_alignment.specs.Observation.{observations}
@@ -12,11 +9,7 @@ use Rattle.retention_alignment.proofs.align_rows.Given as goal
 
 abbrev pub invariant-loop-i : goal.invariant-loop-i
 invariant-loop-i l =
-    (l.i ≤ length l.file)
-    × (length l.aligned ≡ length l.file)
-    × ((ps : List ℕ) → length ps ≡ length l.file → l.aligned
+    l.aligned
     ≡ up_to over l.i l.initial.aligned
-    (map (aligned_in l.max_rt l.slope l.intercept) (observations l.file ps l.rt)))
-
-abbrev pub decreases-loop-i : goal.decreases-loop-i
-decreases-loop-i l = length l.file - l.i
+    (map (aligned_in l.columns.max_rt.now l.columns.slope.now l.columns.intercept.now)
+    (observations l.observed.file.now l.observed.peptide.now l.observed.rt.now))

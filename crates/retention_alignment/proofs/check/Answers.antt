@@ -8,9 +8,10 @@ unfolding status_by
 returns c =
     c.first_failing.ensures
     ∙ rw (
-      c.same_lengths-lengths.ensures,
-      c.limits-limits.ensures,
-      c.long_enough-long.ensures,
-      c.all_below-files_right.ensures,
-      c.all_below-peptides_right.ensures,
+      c.same_lengths.ensures,
+      c.limits.ensures,
+      c.cells_fit.ensures,
+      c.hold.ensures,
+      c.all_below.ensures,
+      c.all_below-2.ensures,
     )

@@ -10,8 +10,8 @@ returns-then-is_finite64 c =
     let a = c.args in
     sym (ap (λ (b : Bool). cond b a.x a.d) (sym c.is_finite64.ensures ∙ c.if-is_finite64.true))
 
-pub returns : goal.returns
+pub returns-else-is_finite64 : goal.returns-else-is_finite64
 unfolding finite_or
-returns c =
+returns-else-is_finite64 c =
     let a = c.args in
     sym (ap (λ (b : Bool). cond b a.x a.d) (sym c.is_finite64.ensures ∙ c.if-is_finite64.false))

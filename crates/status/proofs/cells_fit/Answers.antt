@@ -5,7 +5,7 @@ use native.Mathlib.Nat.{le-div_iff_mul-le, div-lt_iff_lt-mul, lt_of_not-le, mul-
 use native.Mathlib.Decide.{dec_le}
 use native.Mathlib.Omega.{arith}
 use lib.Dec.{leb}
-use borrow.Author.Tests.{le-leb, lt-leb}
+use borrow.Author.Tests.{eq-eqb, le-leb, lt-leb}
 use Rattle.status.proofs.cells_fit.Goals as goal
 
 quotient : (max files peptides : ℕ) → 0 < files → leb peptides (max / files) ≡ leb (peptides * files) max
@@ -20,10 +20,10 @@ returns-then-files-eq0 c =
     let p = c.args in
     let none : p.peptides * p.files ≡ 0 =
     ap (λ (n : ℕ). p.peptides * n) c.if-files-eq0.true ∙ mul-zero p.peptides in
-    sym (le-leb (p.peptides * p.files) p.cells (omega (arith, none)))
+    eq-eqb _ _ c.if-files-eq0.true ∙ sym (le-leb (p.peptides * p.files) p.cells (omega (arith, none)))
 
-pub returns : goal.returns
-returns c =
+pub returns-else-files-eq0 : goal.returns-else-files-eq0
+returns-else-files-eq0 c =
     let p = c.args in
     let h : 0 < p.files = omega (arith, c.if-files-eq0.false) in
     quotient p.cells p.files p.peptides h

@@ -4,4 +4,4 @@ use Rattle.zorkamai.specs.Answers.{of_step}
 use Rattle.zorkamai.proofs.zorkamai_column_step.Goals as goal
 
 pub returns : goal.returns
-returns c = c.of_step.ensures ∙ ap of_step c.step_at.ensures
+returns c = c.from.ensures ∙ ap of_step c.step_at.ensures

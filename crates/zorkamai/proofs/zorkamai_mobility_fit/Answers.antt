@@ -6,4 +6,4 @@ use Rattle.zorkamai.proofs.zorkamai_mobility_fit.Goals as goal
 pub returns : goal.returns
 returns c =
     let entry = c.fit.ensures in
-    exported of_fit _ c.of_fit.ensures entry.answer entry
+    exported of_fit _ c.from.ensures entry.answer entry

@@ -6,4 +6,4 @@ use Rattle.zorkamai.proofs.zorkamai_retention_predict.Goals as goal
 pub returns : goal.returns
 returns c =
     let entry = c.predict.ensures in
-    exported of_predict _ c.of_predict.ensures entry.answer entry
+    exported of_predict _ c.from.ensures entry.answer entry

@@ -5,5 +5,5 @@ use Rattle.zorkamai.proofs.zorkamai_solve.Goals as goal
 
 pub returns : goal.returns
 returns c =
-    exported of_solve _ c.of_solve.ensures c.solve.ensures.answer
+    exported of_solve _ c.from.ensures c.solve.ensures.answer
     c.solve.ensures

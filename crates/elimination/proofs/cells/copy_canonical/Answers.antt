@@ -1,24 +1,17 @@
 -- `elimination::cells::copy_canonical` meets its contract. The loop's invariant: the first j cells are made anew
--- (`made j`), and the length is as it was.
-use mathlib.Core.Path.{refl, ◌∙◌}
+-- (`made j`).
+use mathlib.Core.Path.{◌∙◌}
 use native.Mathlib.Omega.{arith}
 use native.Mathlib.Numerals.{add-one}
-use lib.ListN.{length-set}
 use lib.Ieee.{nan}
 use Rattle.elimination.proofs.Made.{made_none, made_suc, made_copy}
-use borrow.Author.Rules.{rules}
 use Rattle.elimination.proofs.cells.copy_canonical.Goals as goal
 
-pub loop-j-init : goal.loop-j-init
-loop-j-init c = (search rules, made_none _ _, refl)
-
 pub loop-j-preserved : goal.loop-j-preserved
-loop-j-preserved c = (
-  omega arith,
-  rw (c.canonical64.ensures, c.loop-j.invariant.1, add-one) (made_suc _ _ _ nan),
-  simp length-set
-      c.loop-j.invariant.2,
-)
+loop-j-preserved c = rw (c.canonical64.ensures, c.loop-j.invariant, add-one) (made_suc _ _ _ nan)
 
 pub returns : goal.returns
-returns c = c.loop-j.invariant.1 ∙ made_copy _ _ _ _ (search rules) (omega arith)
+returns c = c.loop-j.invariant ∙ made_copy _ _ _ _ c.requires (omega arith)
+
+pub loop-j-init : goal.loop-j-init
+loop-j-init c = made_none _ _

@@ -1,10 +1,9 @@
 -- `elimination::echelon::echelon` meets its contract. The loop's invariant: what is left of the columns gives what
 -- all of them give; there are at most k pivot rows above, and row h, to which the next one comes, starts at `at_h`.
-use mathlib.Core.Path.{◌≡◌, refl, sym, ap, ◌∙◌}
+use mathlib.Core.Path.{◌≡◌, sym, ap, ◌∙◌}
 use mathlib.Core.List.{List, []}
 use mathlib.Core.Bool.{true, false}
 use Prim.Native.Nat.{ℕ, suc, ◌+◌, ◌*◌, ◌≤◌, ◌<◌, ◌-◌}
-use native.Mathlib.Nat.{sub-zero, zero-mul}
 use native.Mathlib.Omega.{arith}
 use native.Mathlib.Numerals.{add-one}
 use lib.ListN.{length, get_or, set, length-set}
@@ -16,8 +15,8 @@ use Rattle.elimination.specs.Rows.{row_of}
 use Rattle.elimination.specs.Elimination.{cell, pivot_row, clear_below, column_eliminated, echelon_from}
 use Rattle.elimination.proofs.Elimination.{pivot_within, column_passed, column_cleared}
 use Rattle.elimination.proofs.Rows.{next_start}
-use Rattle.elimination.proofs.Shape.{inside, inside_at, shape_kept}
-use borrow.Author.Rules.{rules}
+use Rattle.elimination.proofs.Shape.{inside, shape_of}
+use Rattle.elimination.specs.declared.size.Size.{Size}
 use Rattle.elimination.proofs.echelon.echelon.Goals as goal
 
 module _ (n w h k : ℕ) where
@@ -72,134 +71,92 @@ abbrev two_rows : (n w h p a b : ℕ) (cells : List Float) → length cells ≡ 
 two_rows n w h p a b cells e lh ea lp eb =
     record { rows = n; i = h; j = p; count = e; first = (lh, ea); second = (lp, eb) }
 
-pub loop-k-init : goal.loop-k-init
-loop-k-init c =
-    let a = c.args in
-    let rows : List (List Float) = rows_of a.w a.n a.cells.now in (
-      search rules,
-      sym (zero-mul _),
-      search rules,
-      refl,
-      ap (λ (m : ℕ). echelon_from m 0 0 rows) (sub-zero a.n),
-    )
+-- the row that `pivot` found is one
+abbrev found_row : (s : Size) (h k p : ℕ) (cells : List Float) → k < s.n → h ≤ k
+    → p ≡ pivot_row h k (rows_of s.w s.n cells) → p < s.n
+found_row s h k p cells t l e = pivot_place s.n s.w h k p cells t (omega arith) e
 
-pub pivot-i-requires : goal.pivot-i-requires
-pivot-i-requires c =
-    (shape_kept c.requires c.loop-k.invariant.3, omega arith, c.loop-k.invariant.1, c.loop-k-test.true)
-
-pub cell_count-at_i-requires : goal.cell_count-at_i-requires
-cell_count-at_i-requires c =
-    let row =
-    pivot_place c.args.n c.args.w c.loop-k.h c.loop-k.k c.pivot-i.result c.loop-k.cells c.loop-k-test.true
-    (omega arith) c.pivot-i.ensures in
-    let within = inside c.requires c.pivot-i.result row in
-    (omega (arith, row, c.requires.order), omega (arith, c.requires.wide), omega (arith, within))
-
-pub overflow_add-p : goal.overflow_add-p
-overflow_add-p c =
-    let row =
-    pivot_place c.args.n c.args.w c.loop-k.h c.loop-k.k c.pivot-i.result c.loop-k.cells c.loop-k-test.true
-    (omega arith) c.pivot-i.ensures in
-    omega (arith, inside c.requires c.pivot-i.result row, c.cell_count-at_i.ensures)
-
-pub offset_bounds-cells-p : goal.offset_bounds-cells-p
-offset_bounds-cells-p c =
-    let row =
-    pivot_place c.args.n c.args.w c.loop-k.h c.loop-k.k c.pivot-i.result c.loop-k.cells c.loop-k-test.true
-    (omega arith) c.pivot-i.ensures in
-    omega (arith, inside c.requires c.pivot-i.result row, c.cell_count-at_i.ensures)
-
-pub bounds-cells-p : goal.bounds-cells-p
-bounds-cells-p c =
-    let row =
-    pivot_place c.args.n c.args.w c.loop-k.h c.loop-k.k c.pivot-i.result c.loop-k.cells c.loop-k-test.true
-    (omega arith) c.pivot-i.ensures in
-    omega (arith, inside c.requires c.pivot-i.result row, c.cell_count-at_i.ensures, c.requires.left)
-
-pub overflow_add-k : goal.overflow_add-k
-overflow_add-k c = omega (arith, c.requires.order)
-
-pub loop-k-smaller-then-cells-p : goal.loop-k-smaller-then-cells-p
-loop-k-smaller-then-cells-p c = omega arith
-
-pub loop-k-preserved-then-cells-p : goal.loop-k-preserved-then-cells-p
-loop-k-preserved-then-cells-p c =
+pub loop-k-preserved-then-cells-at_i : goal.loop-k-preserved-then-cells-at_i
+loop-k-preserved-then-cells-at_i c =
     let l = c.loop-k in
-    let a = c.args in
-    let t : l.k < a.n = c.loop-k-test.true in (
+    let s = c.args.size in (
       omega arith,
       l.invariant.1,
-      omega arith,
-      l.invariant.3,
-      passed a.n a.w l.h l.k c.pivot-i.result c.cell_count-at_i.result l.cells t (omega arith)
-          c.requires.left c.pivot-i.ensures c.cell_count-at_i.ensures c.if-cells-p.true
-          ∙ l.invariant.4,
+      passed s.n s.w l.h l.k c.pivot-i.result c.cell_count-at_i.result l.cells c.loop-k-test.true (omega arith)
+          s.left c.pivot-i.ensures c.cell_count-at_i.ensures c.if-cells-at_i.true
+          ∙ l.invariant.2,
     )
-
-pub swap_rows_at-requires : goal.swap_rows_at-requires
-swap_rows_at-requires c =
-    let row =
-    pivot_place c.args.n c.args.w c.loop-k.h c.loop-k.k c.pivot-i.result c.loop-k.cells c.loop-k-test.true
-    (omega arith) c.pivot-i.ensures in
-    two_rows c.args.n c.args.w c.loop-k.h c.pivot-i.result c.loop-k.at_h c.cell_count-at_i.result c.loop-k.cells
-    (c.loop-k.invariant.3 ∙ c.requires.count) (omega (arith, c.loop-k-test.true)) c.loop-k.invariant.1
-    row c.cell_count-at_i.ensures
-
-pub clear_below-requires : goal.clear_below-requires
-clear_below-requires c = (
-  shape_kept c.requires (c.swap_rows_at.auto.cells ∙ c.loop-k.invariant.3),
-  omega arith,
-  c.loop-k.invariant.1,
-  c.loop-k-test.true,
-)
-
-pub overflow_add-at_h : goal.overflow_add-at_h
-overflow_add-at_h c =
-    let e = inside_at c.requires c.loop-k.h c.loop-k.at_h (omega (arith, c.loop-k-test.true)) c.loop-k.invariant.1 in
-    omega arith
-
-pub overflow_add-h : goal.overflow_add-h
-overflow_add-h c = omega (arith, c.requires.order)
-
-pub overflow_add-k-in-loop-k : goal.overflow_add-k-in-loop-k
-overflow_add-k-in-loop-k c = omega (arith, c.requires.order)
-
-pub loop-k-smaller : goal.loop-k-smaller
-loop-k-smaller c = omega arith
 
 pub loop-k-preserved : goal.loop-k-preserved
 loop-k-preserved c =
     let b = c.clear_below in
     let x = c.swap_rows_at in
     let l = c.loop-k in
-    let a = c.args in
-    let t : l.k < a.n = c.loop-k-test.true in
+    let s = c.args.size in
+    let n : ℕ = s.n in
+    let w : ℕ = s.w in
+    let t : l.k < n = c.loop-k-test.true in
     let i : ℕ = c.pivot-i.result in
-    let old : List (List Float) = rows_of a.w a.n l.cells in
-    let row = pivot_place a.n a.w l.h l.k i l.cells t (omega arith) c.pivot-i.ensures in
+    let old : List (List Float) = rows_of w n l.cells in
+    let row = found_row s l.h l.k i l.cells t l.invariant.0 c.pivot-i.ensures in
     let two =
-    two_rows a.n a.w l.h i l.at_h c.cell_count-at_i.result l.cells (l.invariant.3 ∙ c.requires.count)
-    (omega (arith, t)) l.invariant.1 row c.cell_count-at_i.ensures in
-    let exchanged : rows_of a.w a.n x.new.cells ≡ swapped l.h i old =
-    ap (rows_of a.w a.n) (x.ensures two)
-    ∙ swapped_rows a.w a.n l.h i l.cells (omega arith) row (l.invariant.3 ∙ c.requires.count) in
-    let rows : rows_of a.w a.n b.new.cells ≡ clear_below l.h l.k (swapped l.h i old) =
+    two_rows n w l.h i l.at_h c.cell_count-at_i.result l.cells (l.auto.cells ∙ c.requires) (omega (arith, t))
+    l.invariant.1 row c.cell_count-at_i.ensures in
+    let exchanged : rows_of w n x.new.cells ≡ swapped l.h i old =
+    ap (rows_of w n) (x.ensures two)
+    ∙ swapped_rows w n l.h i l.cells (omega arith) row (l.auto.cells ∙ c.requires) in
+    let rows : rows_of w n b.new.cells ≡ clear_below l.h l.k (swapped l.h i old) =
     b.ensures ∙ ap (clear_below l.h l.k) exchanged in (
       omega arith,
-      next_start l.at_h l.h a.w l.invariant.1,
-      omega arith,
-      b.auto.cells ∙ x.auto.cells ∙ l.invariant.3,
-      found a.n a.w l.h l.k i c.cell_count-at_i.result l.cells t (omega arith) c.requires.left
+      next_start l.at_h l.h w l.invariant.1,
+      found n w l.h l.k i c.cell_count-at_i.result l.cells t (omega arith) s.left
           c.pivot-i.ensures c.cell_count-at_i.ensures b.new.cells
-          c.if-cells-p.false rows
-          ∙ l.invariant.4,
+          c.if-cells-at_i.false rows
+          ∙ l.invariant.2,
     )
-
-pub shape_of-cells : goal.shape_of-cells
-shape_of-cells c = c.loop-k.invariant.3
 
 pub returns : goal.returns
 unfolding echelon_from
 returns c =
-    let e : c.args.n - c.loop-k.k ≡ 0 = omega arith in
-    rw e at c.loop-k.invariant.4
+    let e : c.args.size.n - c.loop-k.k ≡ 0 = omega arith in
+    rw e at c.loop-k.invariant.2
+
+pub overflow_add-at_i : goal.overflow_add-at_i
+overflow_add-at_i c =
+    let s = c.args.size in
+    let l = c.loop-k in
+    let row = found_row s l.h l.k c.pivot-i.result l.cells c.loop-k-test.true l.invariant.0 c.pivot-i.ensures in
+    let within = inside (shape_of s c.args.cells.now c.requires) c.pivot-i.result row in
+    omega (arith, within, s.left, c.cell_count-at_i.ensures)
+
+pub offset_bounds-cells-at_i : goal.offset_bounds-cells-at_i
+offset_bounds-cells-at_i c =
+    let s = c.args.size in
+    let l = c.loop-k in
+    let row = found_row s l.h l.k c.pivot-i.result l.cells c.loop-k-test.true l.invariant.0 c.pivot-i.ensures in
+    let within = inside (shape_of s c.args.cells.now c.requires) c.pivot-i.result row in
+    omega (arith, within, s.left, c.cell_count-at_i.ensures)
+
+pub bounds-cells-at_i : goal.bounds-cells-at_i
+bounds-cells-at_i c =
+    let s = c.args.size in
+    let l = c.loop-k in
+    let row = found_row s l.h l.k c.pivot-i.result l.cells c.loop-k-test.true l.invariant.0 c.pivot-i.ensures in
+    let within = inside (shape_of s c.args.cells.now c.requires) c.pivot-i.result row in
+    omega (arith, within, s.left, c.cell_count-at_i.ensures, l.auto.cells)
+
+pub cell_count-at_i-requires : goal.cell_count-at_i-requires
+cell_count-at_i-requires c =
+    let s = c.args.size in
+    let l = c.loop-k in
+    let row = found_row s l.h l.k c.pivot-i.result l.cells c.loop-k-test.true l.invariant.0 c.pivot-i.ensures in
+    let within = inside (shape_of s c.args.cells.now c.requires) c.pivot-i.result row in
+    (omega (arith, row, s.order), omega (arith, s.wide), omega (arith, within))
+
+pub swap_rows_at-requires : goal.swap_rows_at-requires
+swap_rows_at-requires c =
+    let s = c.args.size in
+    let l = c.loop-k in
+    let row = found_row s l.h l.k c.pivot-i.result l.cells c.loop-k-test.true l.invariant.0 c.pivot-i.ensures in
+    two_rows s.n s.w l.h c.pivot-i.result l.at_h c.cell_count-at_i.result l.cells (l.auto.cells ∙ c.requires)
+    (omega arith) l.invariant.1 row c.cell_count-at_i.ensures

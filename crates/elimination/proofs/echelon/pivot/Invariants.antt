@@ -2,7 +2,7 @@
 -- the best so far, is what it finds in all; row i starts at `at`.
 use mathlib.Core.Path.{◌≡◌}
 use mathlib.Core.List.{map}
-use Prim.Native.Nat.{◌*◌, ◌≤◌, ◌-◌}
+use Prim.Native.Nat.{◌*◌}
 use lib.ListN.{drop}
 use Rattle.matrix.specs.Rows.{rows_of}
 use Rattle.elimination.specs.Elimination.{cell, largest, pivot_row}
@@ -10,9 +10,6 @@ use Rattle.elimination.proofs.echelon.pivot.Given as goal
 
 abbrev pub invariant-loop-i : goal.invariant-loop-i
 invariant-loop-i l =
-    (l.i ≤ l.n) × (l.at ≡ l.i * l.w)
-    × (largest l.i l.best l.max (map (cell l.k) (drop l.i (rows_of l.w l.n l.cells)))
-    ≡ pivot_row l.h l.k (rows_of l.w l.n l.cells))
-
-abbrev pub decreases-loop-i : goal.decreases-loop-i
-decreases-loop-i l = l.n - l.i
+    (l.at ≡ l.i * l.size.w)
+    × (largest l.i l.best l.max (map (cell l.k) (drop l.i (rows_of l.size.w l.size.n l.cells)))
+    ≡ pivot_row l.h l.k (rows_of l.size.w l.size.n l.cells))

@@ -5,11 +5,10 @@ use mathlib.Core.List.{List}
 use Prim.Native.Nat.{ℕ, suc, ◌+◌, ◌-◌, ◌<◌}
 use native.Mathlib.Numerals.{add-one}
 use native.Mathlib.Nat.{le_refl}
-use native.Mathlib.Omega.{arith}
-use lib.ListN.{length, take, drop, set, length-set, length-take, length-drop}
+use lib.ListN.{length, take, drop, set}
 use lib.Seq.{take-suc-set, drop-set-lt, append_snoc}
-use lib.Ieee.{Float, binary64, of_bits, div}
-use borrow.Rule.Slice.PartMut.{put_mid, same_len_mid}
+use lib.Ieee.{Float, binary64, div}
+use borrow.Rule.Slice.PartMut.{put_mid}
 use Rattle.matrix.specs.Lists.{zipped}
 use Rattle.float.specs.Number.{zero64}
 use Rattle.elimination.specs.Elimination.{cell, less_scaled, cleared}
@@ -37,22 +36,6 @@ put_cleared k row pivot part h e =
           (suc k) row k zero64 (le_refl (suc k)),
       append_snoc,
     ) refl
-
-pub slice_bounds-subtract_scaled-count : goal.slice_bounds-subtract_scaled-count
-slice_bounds-subtract_scaled-count c = simp length-set (omega arith)
-
-pub slice_bounds-subtract_scaled-start : goal.slice_bounds-subtract_scaled-start
-slice_bounds-subtract_scaled-start c = simp length-set (omega arith)
-
-pub subtract_scaled-requires : goal.subtract_scaled-requires
-subtract_scaled-requires c = simp (length-take, length-drop, length-set) (omega arith)
-
-pub shape_of-row : goal.shape_of-row
-shape_of-row c =
-    let row : List Float = set c.args.row.now c.args.k (of_bits binary64 0) in
-    same_len_mid (c.args.k + 1) (length row - (c.args.k + 1)) row c.subtract_scaled.new.dst
-    c.subtract_scaled.auto.dst
-    ∙ length-set c.args.row.now c.args.k (of_bits binary64 0)
 
 pub returns : goal.returns
 returns c =

@@ -1,20 +1,17 @@
--- `elimination::row::divide` meets its contract. The loop's invariant: the first j cells are made anew (`made j`),
--- and the length is as it was.
-use mathlib.Core.Path.{refl, ◌∙◌}
+-- `elimination::row::divide` meets its contract. The loop's invariant: the cells before the index are made anew
+-- (`made`).
+use mathlib.Core.Path.{◌∙◌}
 use native.Mathlib.Omega.{arith}
 use native.Mathlib.Numerals.{add-one}
-use lib.ListN.{length-set}
 use lib.Ieee.{nan}
 use Rattle.elimination.proofs.Made.{made_none, made_suc, made_map}
-use borrow.Author.Rules.{rules}
 use Rattle.elimination.proofs.row.divide.Goals as goal
 
-pub loop-j-init : goal.loop-j-init
-loop-j-init c = (search rules, made_none _ _, refl)
-
-pub loop-j-preserved : goal.loop-j-preserved
-loop-j-preserved c =
-    (omega arith, rw (c.loop-j.invariant.1, add-one) (made_suc _ _ _ nan), simp length-set c.loop-j.invariant.2)
+pub loop-cell-preserved : goal.loop-cell-preserved
+loop-cell-preserved c = rw (c.loop-cell.invariant, add-one) (made_suc _ _ _ nan)
 
 pub returns : goal.returns
-returns c = c.loop-j.invariant.1 ∙ made_map _ _ _ (omega arith)
+returns c = c.loop-cell.invariant ∙ made_map _ _ _ (omega arith)
+
+pub loop-cell-init : goal.loop-cell-init
+loop-cell-init c = made_none _ _

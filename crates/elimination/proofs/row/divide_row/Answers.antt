@@ -3,6 +3,7 @@
 use mathlib.Core.Path.{◌≡◌, sym, ◌∙◌}
 use mathlib.Core.List.{List, map}
 use Prim.Native.Nat.{ℕ, ◌-◌, ◌<◌, ◌≤◌}
+use native.Mathlib.Omega.{arith}
 use lib.ListN.{length, take, drop}
 use lib.Seq.{length-take-le}
 use lib.Dec.{ltb}
@@ -10,7 +11,7 @@ use lib.Ieee.{Float}
 use borrow.Author.Tests.{lt-ltb, le-ltb}
 use borrow.Rule.Slice.PartMut.{put_mid}
 use Rattle.elimination.specs.Elimination.{cell, divided_by, leading, divided}
-use Rattle.elimination.proofs.Elimination.{if_true, if_false}
+use Rattle.elimination.proofs.Elimination.{if_true, if_false, first_found, first_none}
 use Rattle.elimination.proofs.Parts.{rest, put_rest}
 use Rattle.elimination.proofs.row.divide_row.Goals as goal
 
@@ -23,18 +24,17 @@ module _ (n j : ℕ) (row : List Float) where
       put_rest j row part
       ∙ rw (p, rest j row) (rw e (sym (if_true (ltb (leading n row) n) _ row (lt-ltb (leading n row) n (rw e at h)))))
 
-  put_none : j ≡ leading n row → n ≤ j → row ≡ divided n row
-  unfolding divided
-  put_none e h = sym (if_false (ltb (leading n row) n) _ row (le-ltb (leading n row) n (rw e at h)))
+put_none : (n : ℕ) (row : List Float) → n ≤ leading n row → row ≡ divided n row
+unfolding divided
+put_none n row h = sym (if_false (ltb (leading n row) n) _ row (le-ltb (leading n row) n h))
 
-pub slice_bounds-first_nonzero-end-2 : goal.slice_bounds-first_nonzero-end-2
-slice_bounds-first_nonzero-end-2 c = sym (length-take-le _ _ c.requires)
+pub returns-in-Some : goal.returns-in-Some
+returns-in-Some c =
+    let f = first_found (take c.args.n c.args.row.now) c.in-Some.j (sym c.first_nonzero.ensures ∙ c.in-Some.is) in
+    put_divided c.args.n c.in-Some.j c.args.row.now c.divide.new.dst f.0
+    (omega (arith, f, length-take-le c.args.n c.args.row.now c.requires)) c.divide.ensures
 
-pub returns-then-j-n : goal.returns-then-j-n
-returns-then-j-n c =
-    put_divided c.args.n c.first_nonzero-j.result c.args.row.now c.divide.new.dst
-    c.first_nonzero-j.ensures c.if-j-n.true c.divide.ensures
-
-pub returns-else-j-n : goal.returns-else-j-n
-returns-else-j-n c =
-    put_none c.args.n c.first_nonzero-j.result c.args.row.now c.first_nonzero-j.ensures c.if-j-n.false
+pub returns-in_default : goal.returns-in_default
+returns-in_default c =
+    let f = first_none (take c.args.n c.args.row.now) (sym c.first_nonzero.ensures ∙ c.in_default.is) in
+    put_none c.args.n c.args.row.now (omega (arith, f, length-take-le c.args.n c.args.row.now c.requires))

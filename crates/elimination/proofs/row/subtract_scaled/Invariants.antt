@@ -1,18 +1,11 @@
 -- `elimination::row::subtract_scaled` meets its contract. The loop's invariant: the first j cells are made anew
--- (`made j`), and the length is as it was.
+-- (`made j`).
 use mathlib.Core.Path.{◌≡◌}
-use Prim.Native.Nat.{◌≤◌, ◌-◌}
-use lib.ListN.{length, get_or}
+use lib.ListN.{get_or}
 use lib.Ieee.{nan}
 use Rattle.elimination.specs.Elimination.{less_scaled}
 use Rattle.elimination.proofs.Made.{made}
 use Rattle.elimination.proofs.row.subtract_scaled.Given as goal
 
 abbrev pub invariant-loop-j : goal.invariant-loop-j
-invariant-loop-j l =
-    (l.j ≤ length l.initial.dst)
-    × (l.dst ≡ made (λ i x. less_scaled l.factor x (get_or l.src i nan)) l.j l.initial.dst)
-    × (length l.dst ≡ length l.initial.dst)
-
-abbrev pub decreases-loop-j : goal.decreases-loop-j
-decreases-loop-j l = length l.initial.dst - l.j
+invariant-loop-j l = l.dst ≡ made (λ i x. less_scaled l.factor x (get_or l.src i nan)) l.j l.initial.dst

@@ -1,10 +1,9 @@
 -- `elimination::system::join` meets its contract: the two parts that were lent are the row.
-use mathlib.Core.Path.{◌≡◌, refl, sym, ap, ◌∙◌}
+use mathlib.Core.Path.{◌≡◌, refl, ap, ◌∙◌}
 use mathlib.Core.List.{List, ◌++◌}
 use Prim.Native.Nat.{◌-◌}
-use native.Mathlib.Omega.{arith}
 use lib.ListN.{length, drop}
-use lib.Seq.{length-take-le, take_at}
+use lib.Seq.{take_at}
 use lib.Ieee.{Float}
 use borrow.Rule.Slice.PartMut.{put_mid}
 use Rattle.elimination.proofs.Parts.{put_rest}
@@ -18,16 +17,8 @@ put_both left right row front back ef eb =
     put_rest (length left) (front ++ drop (length left) row) back
     ∙ rw (take_at front (drop (length left) row) (length left) (ap length ef), ef, eb) refl
 
-pub slice_bounds-copy-end-2 : goal.slice_bounds-copy-end-2
-slice_bounds-copy-end-2 c =
-    sym (length-take-le (length c.args.left.now) c.args.row.now (omega arith))
-
-pub copy-requires : goal.copy-requires
-copy-requires c =
-    length-take-le (length c.args.left.now) c.args.row.now (omega arith)
-
 pub returns : goal.returns
 returns c =
     put_both c.args.left.now c.args.right.now c.args.row.now
-    c.copy.new.dst c.copy-2.new.dst
-    c.copy.ensures c.copy-2.ensures
+    c.copy_from_slice.new.self c.copy_from_slice-2.new.self
+    c.copy_from_slice.ensures.after c.copy_from_slice-2.ensures.after

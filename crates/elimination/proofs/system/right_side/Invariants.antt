@@ -2,22 +2,17 @@
 -- right side's (`made i`), and row i of the system and of the output starts at `at` and `s`.
 use mathlib.Core.Path.{◌≡◌}
 use mathlib.Core.List.{[], map}
-use Prim.Native.Nat.{◌+◌, ◌*◌, ◌≤◌, ◌-◌}
-use lib.ListN.{length, get_or, drop}
+use Prim.Native.Nat.{◌+◌, ◌*◌}
+use lib.ListN.{get_or, drop}
 use Rattle.matrix.specs.Rows.{rows_of}
 use Rattle.elimination.proofs.Made.{made}
 use Rattle.elimination.proofs.system.right_side.Given as goal
 
 abbrev pub invariant-loop-i : goal.invariant-loop-i
 invariant-loop-i l =
-    (l.i ≤ l.n)
-    × (l.at ≡ l.i * (l.n + l.c))
-    × (l.s ≡ l.i * l.c)
+    (l.at ≡ l._i * (l.n + l.c))
+    × (l.s ≡ l._i * l.c)
     ×
     (rows_of l.c l.n l.solution
-    ≡ made (λ j x. get_or (map (drop l.n) (rows_of (l.n + l.c) l.n l.cells)) j (drop l.n [])) l.i
+    ≡ made (λ j x. get_or (map (drop l.n) (rows_of (l.n + l.c) l.n l.cells)) j (drop l.n [])) l._i
     (rows_of l.c l.n l.initial.solution))
-    × (length l.solution ≡ length l.initial.solution)
-
-abbrev pub decreases-loop-i : goal.decreases-loop-i
-decreases-loop-i l = l.n - l.i

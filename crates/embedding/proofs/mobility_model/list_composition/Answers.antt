@@ -2,40 +2,21 @@
 use mathlib.Core.Path.{ap, ◌∙◌}
 use native.Mathlib.Omega.{arith}
 use lib.ListN.{length}
-use Rattle.embedding.proofs.Appending.{both_listed, listed_as, length_counted}
-use Rattle.embedding.proofs.Shares.{shares_are, counts_seen}
+use Rattle.embedding.proofs.Appending.{length_counted, listed_as}
+use Rattle.embedding.proofs.Shares.{place_listed, shares_listed}
 use Rattle.embedding.proofs.mobility_model.list_composition.Goals as goal
 
-pub list_counts-n-requires : goal.list_counts-n-requires
-list_counts-n-requires c =
-    let e = c.count-seen.ensures in record {
-      seen_value = (e.value, ap length e.counts_after ∙ length_counted c.args.letters.now);
-      in_bounds = (omega arith, omega arith);
-    }
+pub push_shares-requires-clause-places_bound : goal.push_shares-requires-clause-places_bound
+push_shares-requires-clause-places_bound c =
+    let size = ap length c.count-seen.ensures.counts_after ∙ length_counted c.args.letters.now in
+    let listed = rw c.requires.first at c.push_counts.ensures.listed in
+    λ k h. omega (arith, place_listed listed k h)
 
-pub list_shares-requires : goal.list_shares-requires
-list_shares-requires c =
-    let letters = c.args.letters.now in
-    let call = c.list_counts-n in
-    let s = c.requires in
-    let e = c.count-seen.ensures in
-    let l = ap length e.counts_after ∙ length_counted letters in record {
-      seen_value = (
-        e.value
-            ∙ counts_seen letters e.counts_after c.u32_to_f64-whole.ensures s.letters_nonzero.0 s.letters_nonzero.1,
-        l,
-      );
-      n_in_bounds = (
-        omega (arith, s.in_bounds, call.ensures.few, l, call.auto.places),
-        omega (arith, s.in_bounds, call.ensures.few, l, call.auto.values),
-      );
-    }
-
-pub returns : goal.returns
-returns c =
-    let letters = c.args.letters.now in
-    let e = c.count-seen.ensures.counts_after in record {
-      counts_after = e;
-      appended = both_listed (listed_as e c.list_counts-n.ensures) (omega (arith, length_counted letters))
-          (listed_as (shares_are letters e c.u32_to_f64-whole.ensures) c.list_shares.ensures);
-    }
+pub returns-clause-listed : goal.returns-clause-listed
+returns-clause-listed c =
+    let r = c.requires in
+    let e = c.push_shares.ensures in
+    let listed = rw r.first at c.push_counts.ensures.listed in
+    rw r.first
+    (shares_listed c.args.letters.now r.letters_nonzero.0 r.letters_nonzero.1 (listed_as c.count-seen.ensures.counts_after listed)
+    e.twice e.places_after (rw c.u32_to_f64.ensures at e.values_after))

@@ -2,14 +2,10 @@
 -- first k counts, the others as they were.
 use mathlib.Core.Path.{◌≡◌}
 use mathlib.Core.List.{◌++◌, map}
-use Prim.Native.Nat.{◌≤◌, ◌-◌}
 use lib.ListN.{take, drop}
 use Rattle.embedding.specs.Design.{share_of}
 use Rattle.embedding.proofs.residues.put_shares.Given as goal
 
 abbrev pub invariant-loop-k : goal.invariant-loop-k
 invariant-loop-k l =
-    (l.k ≤ lib.ListN.length l.counts) × (l.row ≡ take l.k (map (share_of l.length) l.counts) ++ drop l.k l.initial.row) × (lib.ListN.length l.row ≡ lib.ListN.length l.initial.row)
-
-abbrev pub decreases-loop-k : goal.decreases-loop-k
-decreases-loop-k l = lib.ListN.length l.counts - l.k
+    (l.row ≡ take l.k (map (share_of l.length) l.counts) ++ drop l.k l.initial.row) × (lib.ListN.length l.row ≡ lib.ListN.length l.initial.row)

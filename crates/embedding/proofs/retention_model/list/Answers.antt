@@ -5,10 +5,10 @@ use Rattle.embedding.proofs.Rows.{length_block, retention_whole}
 use Rattle.embedding.proofs.Appending.{both_listed, listed_as, all_counted}
 use Rattle.embedding.proofs.retention_model.list.Goals as goal
 
-pub returns : goal.returns
-returns c =
-    let l = c.args.letters.now in
-    listed_as (retention_whole l c.args.log)
-    (both_listed (listed_as (all_counted l c.count-seen.ensures.counts_after) c.list_counts-n.ensures)
+pub returns-clause-listed : goal.returns-clause-listed
+returns-clause-listed c =
+    let l = c.args.ion.letters.now in
+    listed_as (retention_whole l c.args.ion.log)
+    (both_listed (listed_as (all_counted l c.count-seen.ensures.counts_after) c.push_counts.ensures.listed)
     (omega (arith, length_block everywhere l))
-    c.list_rest.ensures)
+    c.list_rest.ensures.listed)

@@ -9,13 +9,11 @@ use Rattle.embedding.proofs.Rows.{retention_first}
 use Rattle.embedding.proofs.Appending.{all_counted, length_counted}
 use Rattle.embedding.proofs.retention_model.split.Goals as goal
 
-pub returns : goal.returns
-returns c =
+pub returns-clause-head_after : goal.returns-clause-head_after
+returns-clause-head_after c =
     let a = c.args in
-    let l = a.letters.now in record {
-      head_after = ap (take 22) c.embed_part.ensures
-          ∙ take_at (map number (column_counts l)) (drop 22 a.head.now) 22 (length_counted l)
-          ∙ all_counted l refl
-          ∙ sym (retention_first l a.log);
-      appended = c.list_rest.ensures;
-    }
+    let l = a.ion.letters.now in
+    ap (take 22) c.put_counts.ensures
+    ∙ take_at (map number (column_counts l)) (drop 22 a.head.now) 22 (length_counted l)
+    ∙ all_counted l refl
+    ∙ sym (retention_first l a.ion.log)

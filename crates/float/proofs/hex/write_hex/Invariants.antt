@@ -7,6 +7,3 @@ use Rattle.float.proofs.hex.write_hex.Given as goal
 abbrev pub invariant-loop-i : goal.invariant-loop-i
 invariant-loop-i l =
     (l.i ≤ length l.initial.out) × (length l.out ≡ length l.initial.out) × (drop l.i l.out ≡ hex_of (length l.initial.out - l.i) l.v) × (l.rest ≡ l.v / 16 ^ (length l.initial.out - l.i))
-
-abbrev pub decreases-loop-i : goal.decreases-loop-i
-decreases-loop-i l = l.i

@@ -1,43 +1,40 @@
 -- `models::prediction::fit` meets its contract: refused by the status, or fitted.
 use mathlib.Core.Path.{◌≡◌, sym, ap, ◌∙◌}
-use Rattle.status.specs.Status.{accepted}
+use borrow.Author.Rules.{rules}
+use Rattle.std.specs.Prelude.{Err}
+use Rattle.status.specs.Status.{checked}
 use Rattle.regression.specs.Workspace.{FitSlices}
-use Rattle.model_fit.specs.Input.{Input, input_at, status_by}
+use Rattle.model_fit.specs.Input.{input_at, status_by}
 use Rattle.model_fit.proofs.Status.{accepted_checked, accepted_room}
 use Rattle.models.specs.Call.{fit_status}
-use Rattle.models.proofs.Calls.{fit_refused, fit_accepted}
+use Rattle.models.proofs.Calls.{accepted_by, fit_refused, fit_accepted}
 use Rattle.models.proofs.prediction.fit.Goals as goal
 
--- the call's status
-pub returns-then-status-ne-ACCEPTED : goal.returns-then-status-ne-ACCEPTED
-returns-then-status-ne-ACCEPTED c =
+pub returns-in_err-check : goal.returns-in_err-check
+returns-in_err-check c =
     let a = c.args in
-    let i : Input =
-    input_at a.peptide a.label a.q a.charge a.observed a.letters a.offsets a.masses a.logs in
     let held : FitSlices = record { workspace = a.workspace.now; coefficients = a.beta.now } in
-    let status : c.check-status.result ≡ fit_status a.model i held =
-    c.check-status.ensures ∙ ap (status_by a.model i) c.fit_room-room.ensures in
-    fit_refused a.model i held c.check-status.result status c.if-status-ne-ACCEPTED.true
+    let e = ap (λ room. checked (status_by a.model (input_at a.input) room)) (sym c.fit_room-room.ensures)
+    ∙ sym c.check.ensures ∙ c.in_err-check.was in
+    let r : c.from_residual.result ≡ Err c.in_err-check.field-0.0 = search rules in
+    rw r (fit_refused a.model (input_at a.input) held _ e)
 
-pub fit_accepted-requires : goal.fit_accepted-requires
-fit_accepted-requires c =
-    let a = c.args in
-    let i : Input =
-    input_at a.peptide a.label a.q a.charge a.observed a.letters a.offsets a.masses a.logs in
-    let room = c.fit_room-room in
-    let s : status_by a.model i room.result ≡ accepted = sym c.check-status.ensures ∙ c.if-status-ne-ACCEPTED.false in
-    record {
-      checked = accepted_checked a.model i room.result s;
-      beta_value = sym room.ensures ∙ accepted_room a.model i room.result s;
-    }
+pub fit_accepted-requires-clause-checked : goal.fit_accepted-requires-clause-checked
+fit_accepted-requires-clause-checked c =
+    accepted_checked c.args.model _ c.fit_room-room.result
+    (accepted_by _ _ (sym c.check.ensures ∙ c.in_ok-check.was))
+
+pub fit_accepted-requires-clause-beta_value : goal.fit_accepted-requires-clause-beta_value
+fit_accepted-requires-clause-beta_value c =
+    sym c.fit_room-room.ensures
+    ∙ accepted_room c.args.model (input_at c.args.input) c.fit_room-room.result
+    (accepted_by _ _ (sym c.check.ensures ∙ c.in_ok-check.was))
 
 pub returns : goal.returns
 returns c =
     let a = c.args in
-    let i : Input =
-    input_at a.peptide a.label a.q a.charge a.observed a.letters a.offsets a.masses a.logs in
     let held : FitSlices = record { workspace = a.workspace.now; coefficients = a.beta.now } in
-    let status : c.check-status.result ≡ fit_status a.model i held =
-    c.check-status.ensures ∙ ap (status_by a.model i) c.fit_room-room.ensures in
-    fit_accepted a.model i held _ c.fit_accepted.result (sym status ∙ c.if-status-ne-ACCEPTED.false)
-    c.fit_accepted.ensures
+    let s : c.check.result ≡ checked (fit_status a.model (input_at a.input) held) =
+    c.check.ensures ∙ ap (λ room. checked (status_by a.model (input_at a.input) room)) c.fit_room-room.ensures in
+    fit_accepted a.model (input_at a.input) held _ c.fit_accepted.result
+    (accepted_by _ _ (sym s ∙ c.in_ok-check.was)) c.fit_accepted.ensures

@@ -141,9 +141,6 @@ overflow_add-m-then-m-k c =
     let listed = c.requires.listed_row.1 in
     omega (arith, below o values one listed)
 
-pub loop-m-smaller-then-m-k : goal.loop-m-smaller-then-m-k
-loop-m-smaller-then-m-k c = omega arith
-
 pub loop-m-preserved-then-m-k : goal.loop-m-preserved-then-m-k
 loop-m-preserved-then-m-k c =
     let a = c.args in
@@ -187,9 +184,6 @@ overflow_add-m-else-m-k c =
     let listed = c.requires.listed_row.1 in
     omega (arith, below o values one listed)
 
-pub loop-m-smaller : goal.loop-m-smaller
-loop-m-smaller c = omega arith
-
 pub loop-m-preserved : goal.loop-m-preserved
 loop-m-preserved c =
     let a = c.args in
@@ -209,9 +203,6 @@ loop-m-preserved c =
           (c.add_one_row.ensures ext (addable o values ext g l.acc l.invariant.1)
           (row o values ext g l.m (omega arith))))),
     )
-
-pub shape_of-acc : goal.shape_of-acc
-shape_of-acc c = c.loop-m.invariant.1
 
 pub returns : goal.returns
 returns c =

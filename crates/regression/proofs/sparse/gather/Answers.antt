@@ -17,7 +17,7 @@ use Rattle.matrix.proofs.Nonzero.{cells_append}
 use Rattle.packed_rows.proofs.Places.{nonzeros_snoc}
 use borrow.Author.Rules.{rules}
 use Rattle.regression.proofs.sparse.gather.Goals as goal
-use Rattle.regression.proofs.sparse.gather.Goals.{then-ext-j, else-ext-j}
+use Rattle.regression.proofs.sparse.gather.Goals.{then-cell, else-cell}
 use Rattle.regression.proofs.sparse.gather.Invariants.{Gathered}
 
 -- one cell more, and whether it is zero
@@ -93,15 +93,15 @@ loop-j-preserved c =
     let y : Float = get_or ext l.j nan in
     let h : l.j < length ext = omega arith in
     let at = Then ext a.places.now a.values.now l.places l.values l.n l.j l.invariant h c.requires in
-    elim c.if-ext-j.branch [
-      | then-ext-j w ↦
+    elim c.if-cell.branch [
+      | then-cell w ↦
           subst at (sym w.n-is)
           (kept ext a.places.now a.values.now l.places l.values l.n l.j l.invariant h c.requires
-          (sym (is_zero_lem y) ∙ not-true _ w.if-ext-j.true))
-      | else-ext-j w ↦
+          (sym (is_zero_lem y) ∙ not-true _ w.if-cell.true))
+      | else-cell w ↦
           subst at (sym w.n-is)
           (passed ext a.places.now a.values.now l.places l.values l.n l.j l.invariant h c.requires
-          (sym (is_zero_lem y) ∙ not-false _ w.if-ext-j.false))
+          (sym (is_zero_lem y) ∙ not-false _ w.if-cell.false))
     ]
 
 pub returns : goal.returns

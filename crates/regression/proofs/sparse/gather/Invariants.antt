@@ -2,7 +2,7 @@
 -- places are gathered.
 use mathlib.Core.Path.{◌≡◌}
 use mathlib.Core.List.{List}
-use Prim.Native.Nat.{ℕ, ◌-◌, ◌≤◌}
+use Prim.Native.Nat.{ℕ, ◌≤◌}
 use lib.ListN.{length, take}
 use lib.Ieee.{Float}
 use Rattle.matrix.specs.Nonzero.{nonzeros, Nonzeros}
@@ -20,6 +20,3 @@ Gathered ext places₀ values₀ places values n j =
 
 abbrev pub invariant-loop-j : goal.invariant-loop-j
 invariant-loop-j l = Gathered l.ext l.initial.places l.initial.values l.places l.values l.n l.j
-
-abbrev pub decreases-loop-j : goal.decreases-loop-j
-decreases-loop-j l = length l.ext - l.j

@@ -1,8 +1,6 @@
--- `retention_alignment::times::max_rt_by_file` meets its contract. The loop's invariant: each file's longest time so
--- far, with that of the rows from i on, is that of all rows.
+-- The loop's invariant: each file's longest time so far, with that of the rows from i on, is that of all rows.
 use mathlib.Core.Path.{◌≡◌}
-use mathlib.Core.List.{List}
-use Prim.Native.Nat.{ℕ, ◌-◌, ◌≤◌, ◌<◌}
+use Prim.Native.Nat.{ℕ, ◌<◌}
 use lib.ListN.{length, get_or}
 use Rattle.retention_alignment.specs.Observation.{max_rt, observations}
 use Rattle.retention_alignment.proofs.Rows.{rows_from}
@@ -10,11 +8,7 @@ use Rattle.retention_alignment.proofs.times.max_rt_by_file.Given as goal
 
 abbrev pub invariant-loop-i : goal.invariant-loop-i
 invariant-loop-i l =
-    (l.i ≤ length l.file)
-    × (length l.max ≡ length l.initial.max)
-    ×
-    ((ps : List ℕ) → length ps ≡ length l.file → (f : ℕ) → f < length l.initial.max → Prim.Native.Nat.max
-    (get_or l.max f 0) (max_rt f (rows_from l.file ps l.rt l.i)) ≡ max_rt f (observations l.file ps l.rt))
-
-abbrev pub decreases-loop-i : goal.decreases-loop-i
-decreases-loop-i l = length l.file - l.i
+    let o = l.observed in
+    (f : ℕ) → f < length l.initial.max → Prim.Native.Nat.max
+    (get_or l.max f 0) (max_rt f (rows_from o.file.now o.peptide.now o.rt.now l.i))
+    ≡ max_rt f (observations o.file.now o.peptide.now o.rt.now)

@@ -10,37 +10,38 @@ use Rattle.float.specs.Number.{sum_from, number}
 use Rattle.rt_matrix.specs.Line.{mean}
 use Rattle.rt_matrix.proofs.Row.{left_present, left_absent, left_none, ne_true, ne_false}
 use Rattle.rt_matrix.proofs.mean.row_mean.Goals as goal
+use Rattle.rt_matrix.proofs.mean.row_mean.Goals.{then-row-f, else-row-f}
 use Rattle.rt_matrix.proofs.mean.row_mean.Invariants.{left}
 
 pub loop-f-init : goal.loop-f-init
 loop-f-init c = (search rules, search rules, refl, omega arith)
-
-pub loop-f-preserved-then-cell : goal.loop-f-preserved-then-cell
-loop-f-preserved-then-cell c =
-    let a = c.args in
-    let inv = c.loop-f.invariant in
-    let f = c.loop-f.f in
-    let here = left_present a.max.now a.row.now f (omega arith) (omega arith)
-    (ne_true (get_or a.row.now f nan) c.if-cell.true) in (
-      omega arith,
-      omega arith,
-      ap (λ (v : Float). sum_from (add binary64 c.loop-f.sum v) (left a.max.now a.row.now (f + 1)))
-          c.share-sum.ensures ∙ ap (sum_from c.loop-f.sum) (sym here) ∙ inv.2,
-      omega (arith, ap length here, inv.3),
-    )
 
 pub loop-f-preserved : goal.loop-f-preserved
 loop-f-preserved c =
     let a = c.args in
     let inv = c.loop-f.invariant in
     let f = c.loop-f.f in
-    let here = left_absent a.max.now a.row.now f (omega arith) (omega arith)
-    (ne_false (get_or a.row.now f nan) c.if-cell.false) in (
-      omega arith,
-      omega arith,
-      ap (sum_from c.loop-f.sum) (sym here) ∙ inv.2,
-      omega (arith, ap length here, inv.3),
-    )
+    elim c.if-row-f.branch [
+      | then-row-f w ↦
+          let here = left_present a.max.now a.row.now f (omega arith) (omega arith)
+          (ne_true (get_or a.row.now f nan) w.if-row-f.true) in (
+            omega arith,
+            omega (arith, w.n-is),
+            ap (λ (v : Float). sum_from v (left a.max.now a.row.now (f + 1)))
+                (w.sum-is ∙ ap (add binary64 c.loop-f.sum) w.share-sum.ensures)
+                ∙ ap (sum_from c.loop-f.sum) (sym here) ∙ inv.2,
+            omega (arith, ap length here, inv.3, w.n-is),
+          )
+      | else-row-f w ↦
+          let here = left_absent a.max.now a.row.now f (omega arith) (omega arith)
+          (ne_false (get_or a.row.now f nan) w.if-row-f.false) in (
+            omega arith,
+            omega (arith, w.n-is),
+            ap (λ (v : Float). sum_from v (left a.max.now a.row.now (f + 1))) w.sum-is
+                ∙ ap (sum_from c.loop-f.sum) (sym here) ∙ inv.2,
+            omega (arith, ap length here, inv.3, w.n-is),
+          )
+    ]
 
 pub returns : goal.returns
 unfolding mean

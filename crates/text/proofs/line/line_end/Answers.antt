@@ -1,34 +1,26 @@
--- `text::line::line_end` meets its contract. The loop's invariant: the line ends where it ends from i on.
-use mathlib.Core.Path.{◌≡◌, refl, sym, ap, ◌∙◌}
-use mathlib.Core.List.{List, ◌∷◌}
-use Prim.Native.Nat.{ℕ, ◌+◌, ◌<◌}
-use lib.ListN.{length, drop, get_or, drop_of_length-le}
+-- `text::line::line_end` meets its contract: a line ends at the first LF from its start on.
+use Rattle.std.proofs.Common.{◌+◌, sym, ap, ◌∙◌, arith}
+use Rattle.std.specs.List.{position}
+use Rattle.std.specs.Option.{option_map}
+use lib.ListN.{drop_of_length-le}
 use Rattle.text.specs.Line.{line_of}
 use Rattle.text.specs.Answer.{line_end}
-use Rattle.text.proofs.Lists.{drop_next}
-use Rattle.text.proofs.Answers.{end_here, end_more}
+use Rattle.text.proofs.Lists.{part_rest}
+use Rattle.text.proofs.Answers.{is_lf, end_position}
 use Rattle.text.proofs.line.line_end.Goals as goal
 
--- at a turn of the loop
-turn : (text : List ℕ) (at i : ℕ) → i < length text
-    → line_end i (line_of (drop i text)) ≡ line_end at (line_of (drop at text))
-    → line_end i (line_of (get_or text i 0 ∷ drop (i + 1) text)) ≡ line_end at (line_of (drop at text))
-turn text at i lt kept = ap (λ (l : List ℕ). line_end i (line_of l)) (sym (drop_next 0 text i lt)) ∙ kept
+pub returns-in_err-get : goal.returns-in_err-get
+unfolding line_of
+returns-in_err-get c =
+    c.from_residual.ensures
+    ∙ sym (ap (λ s. line_end c.args.at (line_of s)) (drop_of_length-le c.args.text.now (grind arith)))
 
-pub loop-i-init : goal.loop-i-init
-loop-i-init c = refl
-
-pub returns-then-text-i-eq10 : goal.returns-then-text-i-eq10
-returns-then-text-i-eq10 c =
-    sym (end_here c.loop-i.i _ (drop (c.loop-i.i + 1) c.args.text.now) c.if-text-i-eq10.true) ∙ turn c.args.text.now c.args.at c.loop-i.i c.loop-i-test.true c.loop-i.invariant
-
-pub loop-i-preserved : goal.loop-i-preserved
-loop-i-preserved c =
-    sym (end_more c.loop-i.i _ (drop (c.loop-i.i + 1) c.args.text.now) c.if-text-i-eq10.false) ∙ turn c.args.text.now c.args.at c.loop-i.i c.loop-i-test.true c.loop-i.invariant
+pub returns-in_err-length : goal.returns-in_err-length
+returns-in_err-length c =
+    let p = c.in_err-length.ensures ∙ ap (position is_lf) (c.in_ok-get.ensures.lookup.0.2 ∙ part_rest c.args.text.now c.args.at) in
+    c.from_residual-in_err-length.ensures ∙ ap (option_map (λ n. c.args.at + n)) p ∙ sym (end_position c.args.at _)
 
 pub returns : goal.returns
-unfolding line_of
 returns c =
-    ap (λ (s : List ℕ). line_end c.loop-i.i (line_of s))
-    (sym (drop_of_length-le c.args.text.now c.loop-i-test.false))
-    ∙ c.loop-i.invariant
+    let p = c.in_ok-length.ensures ∙ ap (position is_lf) (c.in_ok-get.ensures.lookup.0.2 ∙ part_rest c.args.text.now c.args.at) in
+    ap (option_map (λ n. c.args.at + n)) p ∙ sym (end_position c.args.at _)

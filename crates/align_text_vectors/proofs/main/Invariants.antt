@@ -1,8 +1,0 @@
--- `align_text_vectors::main` is safe and ends: the measure is the number of texts that are left.
-use Rattle.align_text_vectors.proofs.main.Given as goal
-
-abbrev pub invariant-loop-left : goal.invariant-loop-left
-invariant-loop-left l = Unit {0}
-
-abbrev pub decreases-loop-left : goal.decreases-loop-left
-decreases-loop-left l = l.left

@@ -1,0 +1,5 @@
+-- `models::retention_model::predict` meets its contract: that of both models, on what this one reads.
+use Rattle.models.proofs.retention_model.predict.Goals as goal
+
+pub returns : goal.returns
+returns c = rw c.read.ensures at c.predict.ensures
