@@ -126,8 +126,8 @@ impl Model {
     }
 
     // Writes the first cells of an ion's design row into those of `head`, and lists the others that are not zero, as
-    // `list` does. Answers how many are listed. For `model_fit`, as `list`, where a loop over all of retention's counts,
-    // whose turns are always as many, is faster than one over those that are not zero.
+    // `list` does. Answers how many are listed. For `model_fit`, as `list`, where a loop over all of retention's
+    // counts, whose turns are always as many, is faster than one over those that are not zero.
     pub fn split(
         self,
         ion: Ion<'_>,

@@ -109,7 +109,7 @@ impl<'a> Listing<'a> {
         self.len = n + n;
     }
 
-    // Lists the counts of two letters that have these columns: the smaller column first, and 2.0 where both are the same.
+    // Lists the counts of two letters that have these columns: the smaller column first, and 2.0 where both are one.
     #[inline(always)]
     fn push_two(&mut self, at: usize, a: usize, b: usize)
         requires columns { (a < 22) × (b < 22) × (at ≤ 100) }

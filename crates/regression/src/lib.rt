@@ -285,8 +285,8 @@ pub fn r2(sums: Sums, sse: f64) -> f64
     float::canonical64(1.0 - sse / y_var)
 }
 
-// Writes the first j cells of the full row j: column j of the stored rows before row j. Row k starts at `start`. Answers
-// where row j starts.
+// Writes the first j cells of the full row j: column j of the stored rows before row j. Row k starts at `start`.
+// Answers where row j starts.
 fn unfold_column(row: &mut [f64], stored: &[f64], d: usize, j: usize) -> usize
     requires j_lt_d { (j < d) × (d ≤ max_order) }
     requires cells { (length row.old ≡ d + 1) × (length stored.now ≡ falling_start (d + 1) d) }
