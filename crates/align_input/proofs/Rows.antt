@@ -7,7 +7,7 @@ use Prim.Native.Nat.{ℕ, zero, suc, ◌+◌, ◌≤◌, ◌<◌}
 use native.Mathlib.Numerals.{add-one}
 use native.Mathlib.Nat.{le_refl, zero-add}
 use native.Mathlib.Omega.{arith}
-use lib.ListN.{length, drop, length-drop, drop_of_length-le}
+use lib.ListN.{length, drop, length-drop, length-set, drop_of_length-le}
 use lib.Seq.{drop-drop}
 use borrow.Author.Tests.{le-leb, lt-leb}
 use Rattle.text.specs.declared.line.Line.{Line}
@@ -28,7 +28,7 @@ use Rattle.align_input.specs.Parse.{
   after_head,
   parse,
 }
-use Rattle.align_input.specs.Columns.{Columns, stored_row, stored}
+use Rattle.align_input.specs.Columns.{Columns, Same, stored_row, stored}
 use Rattle.align_input.proofs.Grammar.{row_reads, row_some, rows_empty, rows_step}
 
 row_takes : (r : TextRow) (n : ℕ) (s : List ℕ) → row_read s ≡ value r n → 1 ≤ n
@@ -104,6 +104,17 @@ storing_cons : (c : Columns) (i : ℕ) (r : TextRow) (o : Option (List TextRow))
     → storing c i (cons_row r o) ≡ storing (stored_row c i r) (i + 1) o
 storing_cons c i r None = refl
 storing_cons c i r (Some rows) = ap (λ (k : ℕ). Some (stored (stored_row c i r) k rows)) (sym (add-one i))
+
+-- a row that is stored leaves the columns as long as they were
+pub same_row : {c d : Columns} (i : ℕ) (r : TextRow) → Same c d → Same c (stored_row d i r)
+same_row i r s =
+    record {
+      file = length-set _ _ _ ∙ s.file;
+      peptide = length-set _ _ _ ∙ s.peptide;
+      label = length-set _ _ _ ∙ s.label;
+      q = length-set _ _ _ ∙ s.q;
+      rt = length-set _ _ _ ∙ s.rt;
+    }
 
 -- what is left to do from the place at, with i rows before it, gives what the whole gives
 module _ (t : List ℕ) (at : ℕ) (h : at < length t) where

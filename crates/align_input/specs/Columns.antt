@@ -44,6 +44,14 @@ SameNames before after =
 abbrev pub SameSlices : Change (MutBor Slices) → Type 0
 SameSlices c = SameNames c.entry.now c.exit.now
 
+-- the columns' lengths stay
+pub record Same (before after : Columns) : Type 0 where
+  pub file : length after.file ≡ length before.file
+  pub peptide : length after.peptide ≡ length before.peptide
+  pub label : length after.label ≡ length before.label
+  pub q : length after.q ≡ length before.q
+  pub rt : length after.rt ≡ length before.rt
+
 -- a row stored in the i-th cells, if there are such cells
 abbrev pub stored_row : Columns → ℕ → TextRow → Columns
 stored_row c i r =

@@ -7,7 +7,7 @@ ghost use Rattle.text.specs.Answer.{line_at};
 ghost use Rattle.align_input.specs.declared.TextRow.{TextRow as TextRow·};
 ghost use Rattle.align_input.specs.Input.{Input};
 ghost use Rattle.align_input.specs.Parse.{row_read, rows_of, head_read, parse};
-ghost use Rattle.align_input.specs.Columns.{sizes_of, held_rows, SameSlices, stored_row, stored};
+ghost use Rattle.align_input.specs.Columns.{sizes_of, held_rows, SameSlices, Same, stored_row, stored};
 
 use text::{Line, read_decimal_line, read_hex_line, read_signed_line};
 
@@ -108,9 +108,11 @@ pub fn read_head(input: &[u8]) -> Option<Line<Head>>
     })
 }
 
-// The number of the rows from `at` to the end of a text. As many as there is room for are stored.
+// The number of the rows from `at` to the end of a text. As many as there is room for are stored. Each column keeps its
+// length, whatever is answered.
 fn read_rows(input: &[u8], at: usize, columns: &mut Columns<'_>) -> Option<usize>
     ensures same { SameSlices columns }
+    ensures lengths { Same (held_rows columns.old) (held_rows columns.new) }
     ensures answer { result ≡ option_map length (rows_of (drop at input.now)) }
     ensures columns { (rows : List TextRow·) → rows_of (drop at input.now) ≡ Some rows
         → held_rows columns.new ≡ stored (held_rows columns.old) 0 rows }
@@ -127,9 +129,10 @@ fn read_rows(input: &[u8], at: usize, columns: &mut Columns<'_>) -> Option<usize
     Some(rows)
 }
 
-// What a text says. As many rows as there is room for are stored.
+// What a text says. As many rows as there is room for are stored. Each column keeps its length, whatever is answered.
 pub fn read_input(input: &[u8], columns: &mut Columns<'_>) -> Option<Sizes>
     ensures same { SameSlices columns }
+    ensures lengths { Same (held_rows columns.old) (held_rows columns.new) }
     ensures answer { result ≡ option_map sizes_of (parse input.now) }
     ensures columns { (d : Input) → parse input.now ≡ Some d
         → held_rows columns.new ≡ stored (held_rows columns.old) 0 d.rows }

@@ -15,6 +15,7 @@ returns-then-input-gt-BYTES_MAX c =
     let e = parse_long t c.if-input-gt-BYTES_MAX.true in
     record {
       same = (refl, refl, refl, refl, refl);
+      lengths = record { file = refl; peptide = refl; label = refl; q = refl; rt = refl };
       answer = ap (option_map sizes_of) (sym e);
       columns = λ d h. some_none (parse t) d h e;
     }
@@ -25,6 +26,7 @@ returns-in_err-head c =
     let e = parse_bad t c.if-input-gt-BYTES_MAX.false c.in_err-head.ensures in
     record {
       same = (refl, refl, refl, refl, refl);
+      lengths = record { file = refl; peptide = refl; label = refl; q = refl; rt = refl };
       answer = c.from_residual.ensures ∙ ap (option_map sizes_of) (sym e);
       columns = λ d h. some_none (parse t) d h e;
     }
@@ -38,6 +40,7 @@ returns-in_err-rows c =
     ∙ ap (with_rows head.value) (rows_missing _ c.in_err-rows.ensures.answer) in
     record {
       same = c.read_rows.ensures.same;
+      lengths = c.read_rows.ensures.lengths;
       answer = c.from_residual-in_err-rows.ensures ∙ ap (option_map sizes_of) (sym e);
       columns = λ d h. some_none (parse t) d h e;
     }
@@ -51,6 +54,7 @@ returns c =
     parse_head t c.if-input-gt-BYTES_MAX.false head c.in_ok-head.ensures ∙ ap (with_rows head.value) w.1 in
     record {
       same = c.read_rows.ensures.same;
+      lengths = c.read_rows.ensures.lengths;
       answer =
           ap (λ k. Some (record { files = head.value.files; peptides = head.value.peptides; rows = k })) w.2
           ∙ ap (option_map sizes_of) (sym e);

@@ -1,10 +1,20 @@
 -- `align_input::read_rows` meets its contract. The loop's invariant: counting and storing the rows that are left
 -- gives what counting and storing all of them gives, in the slices that were lent.
-use Rattle.std.proofs.Common.{◌≡◌, ℕ, ◌+◌, Some, None, drop, sym, ap, ◌∙◌, add-zero, arith}
+use Rattle.std.proofs.Common.{◌≡◌, ℕ, ◌+◌, Some, None, drop, sym, ap, ◌∙◌, subst, add-zero, arith}
 use borrow.Author.Rules.{rules}
 use Rattle.align_input.specs.Parse.{rows_of}
-use Rattle.align_input.specs.Columns.{Columns, held_rows}
-use Rattle.align_input.proofs.Rows.{count_from, count_all, storing, turn_bad, turn_further, turn_count, turn_columns, rows_end}
+use Rattle.align_input.specs.Columns.{Columns, Same, held_rows}
+use Rattle.align_input.proofs.Rows.{
+  count_from,
+  count_all,
+  storing,
+  same_row,
+  turn_bad,
+  turn_further,
+  turn_count,
+  turn_columns,
+  rows_end,
+}
 use Rattle.align_input.proofs.read_rows.Goals as goal
 
 -- `None` is no `Some`, and what two equal ones hold is equal
@@ -46,6 +56,7 @@ loop-next-preserved c =
       within = omega (arith, turn_further t l.next lt row told, l.invariant.within);
       count = sym (turn_count t l.next lt row told l.rows) ∙ l.invariant.count;
       same = (search rules);
+      lengths = subst (Same _) (sym c.put.ensures.stored) (same_row l.rows row.value l.invariant.lengths);
       store =
           ap (λ (x : Columns). storing x (l.rows + 1) (rows_of (drop row.next t))) c.put.ensures.stored
           ∙ sym (turn_columns t l.next lt row told (held_rows l.columns) l.rows)

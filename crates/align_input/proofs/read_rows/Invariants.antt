@@ -2,7 +2,7 @@
 -- gives what counting and storing all of them gives, in the slices that were lent.
 use Rattle.std.proofs.Common.{◌≡◌, ◌-◌, ◌≤◌, length, drop}
 use Rattle.align_input.specs.Parse.{rows_of}
-use Rattle.align_input.specs.Columns.{held_rows, SameNames}
+use Rattle.align_input.specs.Columns.{held_rows, SameNames, Same}
 use Rattle.align_input.proofs.Rows.{count_from, storing}
 use Rattle.align_input.proofs.read_rows.Given as goal
 
@@ -12,6 +12,7 @@ invariant-loop-next l =
       within : l.rows ≤ l.next;
       count : count_from l.rows (rows_of (drop l.next l.input)) ≡ count_from 0 (rows_of (drop l.at l.input));
       same : SameNames l.initial.columns l.columns;
+      lengths : Same (held_rows l.initial.columns) (held_rows l.columns);
       store : storing (held_rows l.columns) l.rows (rows_of (drop l.next l.input)) ≡ storing (held_rows l.initial.columns) 0 (rows_of (drop l.at l.input));
     }
 
