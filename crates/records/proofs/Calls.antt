@@ -5,7 +5,7 @@ use mathlib.Core.List.{List, [], ◌∷◌}
 use Prim.Native.Nat.{ℕ}
 use lib.Ieee.{Float}
 use Rattle.std.specs.Prelude.{Result, Ok, Err}
-use Rattle.status.specs.Status.{bad_file, first_failing}
+use Rattle.status.specs.Status.{bad_file, first_failing, number_of}
 use Rattle.status.specs.Told.{gives, told_for}
 use Rattle.rt_matrix.specs.declared.Alignment.{Alignment}
 use Rattle.retention_alignment.specs.Alignments.{aligned_by}
@@ -15,7 +15,8 @@ use Rattle.records.specs.Record.{
   record_of,
   time_by,
   told_by,
-  time_told_by,
+  time_told_in,
+  time_found_in,
   time_told,
   LookupCall,
   TimeByCall,
@@ -38,17 +39,20 @@ time_told_lem : (b : Bool) (a : Alignment) (rt : Float)
 time_told_lem true a rt = refl
 time_told_lem false a rt = refl
 
-time_by_lem : (found : Result Alignment Refusal) (rt : Float) → time_told_by (time_by found rt) ≡ time_told found rt
-time_by_lem (Ok a) rt = refl
-time_by_lem (Err r) rt = refl
+time_by_lem : {E : Type 0} (number : E → ℕ) (found : Result Alignment E) (rt : Float)
+    → time_told_in number (time_by found rt) ≡ time_found_in number found rt
+time_by_lem number (Ok a) rt = refl
+time_by_lem number (Err r) rt = refl
 
 pub lookup : (records : List Alignment) (file : ℕ) (r : Result Alignment Refusal) → r ≡ record_of records file
     → LookupCall records file r
 lookup records file r e =
     record { answer = e; told = ap told_by e ∙ found_told_lem (reaches records file) (record_at records file) }
 
-pub timed : (found : Result Alignment Refusal) (rt : Float) (r : Result Float Refusal) → r ≡ time_by found rt → TimeByCall found rt r
-timed found rt r e = record { answer = e; told = ap time_told_by e ∙ time_by_lem found rt }
+pub timed : {E : Type 0} (found : Result Alignment E) (rt : Float) (r : Result Float E) → r ≡ time_by found rt
+    → TimeByCall found rt r
+timed found rt r e =
+    record { answer = e; told = λ number. ap (time_told_in number) e ∙ time_by_lem number found rt }
 
 -- a lookup, and then a time by what it found
 pub looked_up_and_timed : (records : List Alignment) (file : ℕ) (rt : Float) (found : Result Alignment Refusal) (r : Result Float Refusal)
@@ -57,7 +61,7 @@ looked_up_and_timed records file rt found r l t =
     record {
       answer = t.answer ∙ ap (λ (g : Result Alignment Refusal). time_by g rt) l.answer;
       told =
-          t.told
+          t.told number_of
           ∙ ap (λ (g : Result Alignment Refusal). time_told g rt) l.answer
           ∙ time_told_lem (reaches records file) (record_at records file) rt;
     }

@@ -21,8 +21,8 @@ record_at records file = get_or records file no_alignment
 abbrev pub record_of : List Alignment → ℕ → Result Alignment Refusal
 record_of records file = cond (reaches records file) (Ok (record_at records file)) (Err BadFile)
 
--- a time by what a lookup found
-abbrev pub time_by : Result Alignment Refusal → Float → Result Float Refusal
+-- a time by what a lookup found, whatever says why it found nothing
+abbrev pub time_by : {E : Type 0} → Result Alignment E → Float → Result Float E
 time_by (Ok a) rt = Ok (aligned_by a rt)
 time_by (Err r) rt = Err r
 
@@ -32,14 +32,22 @@ abbrev pub told_by : Result Alignment Refusal → Told Alignment
 told_by (Ok a) = gives a
 told_by (Err r) = only (number_of r)
 
-abbrev pub time_told_by : Result Float Refusal → Told Float
-time_told_by (Ok t) = gives t
-time_told_by (Err r) = only (number_of r)
+-- of a time, where what says why there is none has a number
+abbrev pub time_told_in : {E : Type 0} → (number : E → ℕ) → Result Float E → Told Float
+time_told_in number (Ok t) = gives t
+time_told_in number (Err r) = only (number r)
 
 -- of a time, by what was found
+abbrev pub time_found_in : {E : Type 0} → (number : E → ℕ) → Result Alignment E → Float → Told Float
+time_found_in number (Ok a) rt = gives (aligned_by a rt)
+time_found_in number (Err r) rt = only (number r)
+
+-- the same of a refusal of the table
+abbrev pub time_told_by : Result Float Refusal → Told Float
+time_told_by r = time_told_in number_of r
+
 abbrev pub time_told : Result Alignment Refusal → Float → Told Float
-time_told (Ok a) rt = gives (aligned_by a rt)
-time_told (Err r) rt = only (number_of r)
+time_told found rt = time_found_in number_of found rt
 
 -- the status for a list of records and a file: 4 where the list ends before the file
 abbrev pub status : List Alignment → ℕ → ℕ
@@ -52,10 +60,10 @@ pub record LookupCall (records : List Alignment) (file : ℕ) (r : Result Alignm
   pub answer : r ≡ record_of records file
   pub told : told_by r ≡ told_for (status records file) (gives (record_at records file))
 
--- of `time_by`: the status of what was found stays
-pub record TimeByCall (found : Result Alignment Refusal) (rt : Float) (r : Result Float Refusal) : Type 0 where
+-- of `time_by`: the status of what was found stays, whatever numbers there are
+pub record TimeByCall {E : Type 0} (found : Result Alignment E) (rt : Float) (r : Result Float E) : Type 0 where
   pub answer : r ≡ time_by found rt
-  pub told : time_told_by r ≡ time_told found rt
+  pub told : (number : E → ℕ) → time_told_in number r ≡ time_found_in number found rt
 
 -- of `aligned`
 pub record AlignedCall (records : List Alignment) (file : ℕ) (rt : Float) (r : Result Float Refusal) : Type 0 where

@@ -30,8 +30,8 @@ pub fn record_of(records: &[Alignment], file: u32) -> Result<Alignment, Refusal>
     Ok(canonical(*found))
 }
 
-// A time by what a lookup found.
-pub fn time_by(found: Result<Alignment, Refusal>, rt: f32) -> Result<f32, Refusal>
+// A time by what a lookup found; what says why it found nothing may be of any type, and is passed on.
+pub fn time_by<E>(found: Result<Alignment, E>, rt: f32) -> Result<f32, E>
     ensures { TimeByCall found rt result }
 {
     let a = found?;

@@ -10,13 +10,13 @@ use Rattle.records.proofs.Calls.{timed}
 use Rattle.records.proofs.time_by.Goals as goal
 
 pub returns-in_err-a : goal.returns-in_err-a
-returns-in_err-a c =
+returns-in_err-a g c =
     let p = err_from_is_err_and c.from_residual.result c.from_residual.ensures.1 in
     rw (p.1, p.2)
-    (timed _ c.args.rt _ (sym (ap (λ (f : Result Alignment Refusal). time_by f c.args.rt) c.in_err-a.was)))
+    (timed _ c.args.rt _ (sym (ap (λ f. time_by f c.args.rt) c.in_err-a.was)))
 
 pub returns : goal.returns
-returns c =
+returns g c =
     timed _ c.args.rt _
     (ap (λ (t : Float). Ok t) c.aligned_time.ensures
-    ∙ sym (ap (λ (f : Result Alignment Refusal). time_by f c.args.rt) c.in_ok-a.was))
+    ∙ sym (ap (λ f. time_by f c.args.rt) c.in_ok-a.was))
