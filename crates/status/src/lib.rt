@@ -153,3 +153,34 @@ pub fn first_failing(
     require(files, Refusal::BadFile)?;
     require(peptides, Refusal::BadPeptide)
 }
+
+// The number of the first check that fails, or that of an accepted call, `table` being a number of any kind: for who
+// checks a table with numbers of its own.
+pub fn first_failing_number(
+    lengths: bool,
+    limits: bool,
+    room: bool,
+    table: u8,
+    files: bool,
+    peptides: bool,
+) -> u8
+    ensures { result ≡ first_failing
+        ((bad_lengths, lengths)
+        ∷ (past_limit, limits)
+        ∷ (too_short, room)
+        ∷ (table, eqb table accepted)
+        ∷ (bad_file, files)
+        ∷ (bad_peptide, peptides)
+        ∷ []) }
+{
+    if let Err(refusal) = first_failing(lengths, limits, room, Ok(()), true, true) {
+        return refusal.number();
+    }
+    if table != ACCEPTED {
+        return table;
+    }
+    match first_failing(true, true, true, Ok(()), files, peptides) {
+        Ok(()) => ACCEPTED,
+        Err(refusal) => refusal.number(),
+    }
+}
