@@ -40,15 +40,36 @@ pub fn changed<T: PartialEq + Copy>(n: u64, cells: &[T], before: T) -> u64 {
     count
 }
 
+// How many cells changed of the columns of the files' records, which may be shared ones.
+pub fn changed_columns(
+    max_rt: &[f32],
+    slope: &[f32],
+    intercept: &[f32],
+    used: &[u32],
+    max_rt_exact: &[bool],
+    slope_exact: &[bool],
+    intercept_exact: &[bool],
+) -> u64 {
+    let longest = changed(0, max_rt, VALUE);
+    let slopes = changed(longest, slope, VALUE);
+    let lines = changed(slopes, intercept, VALUE);
+    let counts = changed(lines, used, COUNT);
+    let exact = changed(counts, max_rt_exact, FLAG);
+    let exact = changed(exact, slope_exact, FLAG);
+    changed(exact, intercept_exact, FLAG)
+}
+
 // How many fields of the files' records changed.
 pub fn changed_records(records: &FileColumns<'_>) -> u64 {
-    let max_rt = changed(0, &records.max_rt[..], VALUE);
-    let slopes = changed(max_rt, &records.slope[..], VALUE);
-    let lines = changed(slopes, &records.intercept[..], VALUE);
-    let counts = changed(lines, &records.used[..], COUNT);
-    let max_rt_exact = changed(counts, &records.max_rt_exact[..], FLAG);
-    let exact = changed(max_rt_exact, &records.slope_exact[..], FLAG);
-    changed(exact, &records.intercept_exact[..], FLAG)
+    changed_columns(
+        &records.max_rt[..],
+        &records.slope[..],
+        &records.intercept[..],
+        &records.used[..],
+        &records.max_rt_exact[..],
+        &records.slope_exact[..],
+        &records.intercept_exact[..],
+    )
 }
 
 // Writes the records of the first files, column by column.
