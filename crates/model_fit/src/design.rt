@@ -34,7 +34,7 @@ impl<'a> Rows<'a> {
 
 impl<'a> Table<'a> {
     // The log of a peptide's mass, with the one NaN for every NaN, and where the model has no logs.
-    fn log_at(self, p: PeptideIx) -> f64
+    pub fn log_at(self, p: PeptideIx) -> f64
         ensures { result ≡ get_or self.entry.logs.now p.0 nan }
     {
         match self.logs.get(p.0 as usize) {
@@ -44,8 +44,8 @@ impl<'a> Table<'a> {
     }
 
     // A peptide's mass as far as the model's design row reads it: retention's does not, and what is not read is not
-    // fetched.
-    fn mass_at(self, model: Model, p: PeptideIx) -> f32
+    // fetched. For this crate, which has checked the peptide's number.
+    pub fn mass_at(self, model: Model, p: PeptideIx) -> f32
         requires { p.0 < length self.masses.now }
         ensures { (letters : List ℕ) (log : Float) (charge : ℕ)
             → design model letters log result charge
