@@ -16,6 +16,7 @@ mod system;
 mod walk;
 
 use crate::size::Size;
+pub use cells::copy;
 pub use system::{augment, right_side};
 
 // One try on the rows [left | right] of n + c cells each: adds the ridge `eps` to the left diagonal, eliminates, and

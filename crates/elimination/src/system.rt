@@ -4,7 +4,7 @@ ghost use Rattle.matrix.specs.Rows.{rows_of};
 ghost use Rattle.elimination.specs.Rows.{augmented};
 ghost use Rattle.elimination.specs.Ridge.{right_side};
 
-use crate::cells::copy_canonical;
+use crate::cells::{copy, copy_canonical};
 
 // The row becomes the left cells followed by the right ones.
 fn join(row: &mut [f64], left: &[f64], right: &[f64])
@@ -12,8 +12,8 @@ fn join(row: &mut [f64], left: &[f64], right: &[f64])
     ensures { row.new ≡ left.now ++ right.now }
 {
     let n = left.len();
-    row[..n].copy_from_slice(left);
-    row[n..].copy_from_slice(right);
+    copy(&mut row[..n], left);
+    copy(&mut row[n..], right);
 }
 
 // The rows [left | right]. For crate gauss.

@@ -309,7 +309,7 @@ fn unfold_row(row: &mut [f64], stored: &[f64], d: usize, j: usize)
     ensures { row.new ≡ tabulate (d + 1) (mirrored (falling_rows (d + 1) d stored.now) j) }
 {
     let start = unfold_column(row, stored, d, j);
-    row[j..].copy_from_slice(&stored[start..start + (d + 1 - j)]);
+    elimination::copy(&mut row[j..], &stored[start..start + (d + 1 - j)]);
 }
 
 // Unfolds the stored equations into the d full rows of d + 1 cells.

@@ -34,13 +34,13 @@ offset_bounds-stored-start c =
     let a = c.args in
     omega (arith, c.unfold_column-start.ensures.value, row_ends (a.d + 1) a.d a.j c.requires.j_lt_d.0)
 
-pub slice_bounds-copy_from_slice-end-2 : goal.slice_bounds-copy_from_slice-end-2
-slice_bounds-copy_from_slice-end-2 c =
+pub slice_bounds-copy-end-2 : goal.slice_bounds-copy-end-2
+slice_bounds-copy-end-2 c =
     let a = c.args in
     omega (arith, c.unfold_column-start.ensures.value, row_ends (a.d + 1) a.d a.j c.requires.j_lt_d.0)
 
-pub copy_from_slice-requires : goal.copy_from_slice-requires
-copy_from_slice-requires c =
+pub copy-requires : goal.copy-requires
+copy-requires c =
     let a = c.args in
     let ends = row_ends (a.d + 1) a.d a.j c.requires.j_lt_d.0 in
     simp (length-take, length-drop) (omega (arith, c.unfold_column-start.ensures.value, ends))
@@ -50,7 +50,7 @@ returns c =
     let a = c.args in
     let column = c.unfold_column-start in
     let k : column.result + (a.d + 1 - a.j) - column.result ≡ a.d + 1 - a.j = omega arith in
-    whole a.d a.j a.stored.now a.row.now column.new.row c.copy_from_slice.new.self c.requires.j_lt_d.0
+    whole a.d a.j a.stored.now a.row.now column.new.row c.copy.new.dst c.requires.j_lt_d.0
     (column.auto.row ∙ c.requires.cells.0) column.ensures.row_after
-    (c.copy_from_slice.ensures.after
+    (c.copy.ensures
     ∙ rw (k, column.ensures.value) (stored_row a.d a.j a.stored.now c.requires.j_lt_d.0 c.requires.cells.1))

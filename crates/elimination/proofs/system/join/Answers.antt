@@ -20,5 +20,5 @@ put_both left right row front back ef eb =
 pub returns : goal.returns
 returns c =
     put_both c.args.left.now c.args.right.now c.args.row.now
-    c.copy_from_slice.new.self c.copy_from_slice-2.new.self
-    c.copy_from_slice.ensures.after c.copy_from_slice-2.ensures.after
+    c.copy.new.dst c.copy-2.new.dst
+    c.copy.ensures c.copy-2.ensures
