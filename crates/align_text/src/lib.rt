@@ -35,18 +35,18 @@ const CELLS_MAX: usize = 1024;
 // Bytes of the buffer that an answer is made in. An answer has at most 5,650.
 const TEXT_MAX: usize = 8192;
 
-// A call that wrote no alignment.
+// A call that wrote no alignment. `align_text`'s status is a `Refusal`; `written` takes any that may be dropped.
 #[derive(Clone, Copy, Debug, PartialEq, Eq)]
-pub struct Refused {
+pub struct Refused<S = Refusal> {
     // The text's status, or TooShort where the text is accepted and its answer does not fit.
-    pub status: Refusal,
+    pub status: S,
     // How many bytes of the output the line of the text's status has: 0 where nothing is written, since it does not
     // fit or the text is accepted.
     pub written: usize,
 }
 
-// How many bytes of the output a call wrote.
-pub fn written(answer: Result<usize, Refused>) -> usize
+// How many bytes of the output a call wrote, whatever the status is.
+pub fn written<S: Drop>(answer: Result<usize, Refused<S>>) -> usize
     ensures { result ≡ written_in answer }
 {
     match answer {
