@@ -1,5 +1,5 @@
 -- The rows from i on, as columns that are walked side by side.
-use mathlib.Core.Path.{◌≡◌, refl, ap, ap₂, ◌∙◌}
+use mathlib.Core.Path.{◌≡◌, refl, sym, ap, ap₂, ◌∙◌}
 use mathlib.Core.Bool.{Bool, true, cond}
 use mathlib.Core.List.{List, [], ◌∷◌, map}
 use Prim.Native.Nat.{ℕ, zero, suc, ◌+◌, ◌≤◌, ◌<◌}
@@ -15,11 +15,12 @@ use lib.Ieee.{Float, nan}
 use Rattle.status.specs.Checks.{every, all_below}
 use Rattle.status.proofs.Laws.{and_true}
 use Rattle.feature.specs.Feature.{trains, mask, kept}
-use Rattle.rt_matrix.specs.Columns.{FileColumns, columns_of, written_over}
+use Rattle.rt_matrix.specs.Columns.{FileColumns, columns_of, records_of, written_over, EachOf}
 use Rattle.rt_matrix.specs.declared.Alignment.{Alignment}
 use Rattle.rt_matrix.proofs.RecordColumns.{written_at}
+use Rattle.rt_matrix.proofs.RecordsOf.{records_at}
 use Rattle.retention_alignment.specs.Observation.{Obs, observations}
-use Rattle.retention_alignment.specs.Alignments.{aligned_by, no_alignment, aligned, aligned_in}
+use Rattle.retention_alignment.specs.Alignments.{on_line, aligned_by, no_alignment, aligned, aligned_in}
 
 module _ (fs ps : List ℕ) (ts : List Float) where
   -- the rows from i on, and the row at i
@@ -86,21 +87,45 @@ module _ (fs ps : List ℕ) (ts : List Float) where
         nothing [] = refl
         nothing (b ∷ m) = refl
 
--- rows whose files have records: the times by the three columns that these are written over are the times by the records
+-- rows whose files have records: the times by three columns are the times by the records, where each file's is
+pub by_cells : (records : List Alignment) (max_rt slope intercept : List Float) (n : ℕ)
+    → ((f : ℕ) (t : Float) → f < n
+    → on_line (get_or max_rt f nan) (get_or slope f nan) (get_or intercept f nan) t
+    ≡ aligned_by (get_or records f no_alignment) t)
+    → (fs ps : List ℕ) (ts : List Float) → all_below n fs ≡ true
+    → map (aligned_in max_rt slope intercept) (observations fs ps ts)
+    ≡ map (aligned records) (observations fs ps ts)
+unfolding observations aligned every
+by_cells records max_rt slope intercept n same [] ps ts h = refl
+by_cells records max_rt slope intercept n same (f ∷ fs) [] ts h = refl
+by_cells records max_rt slope intercept n same (f ∷ fs) (p ∷ ps) [] h = refl
+by_cells records max_rt slope intercept n same (f ∷ fs) (p ∷ ps) (t ∷ ts) h =
+    let both = and_true (ltb f n) (all_below n fs) h in
+    ap₂ (λ (time : Float) (rest : List Float). time ∷ rest)
+    (same f t (ltb-true f n both.0))
+    (by_cells records max_rt slope intercept n same fs ps ts both.1)
+
+-- any columns of n cells
+pub by_columns : (c : FileColumns) (n : ℕ) → EachOf n c → (fs ps : List ℕ) (ts : List Float)
+    → all_below n fs ≡ true
+    → map (aligned_in c.max_rt c.slope c.intercept) (observations fs ps ts)
+    ≡ map (aligned (records_of c)) (observations fs ps ts)
+by_columns c n e =
+    by_cells (records_of c) c.max_rt c.slope c.intercept n
+    (λ f t h. ap (λ (a : Alignment). aligned_by a t) (sym (records_at c n e f no_alignment h)))
+
+-- columns that n records are written over
 pub by_records : (records : List Alignment) (c : FileColumns) (n : ℕ) → length records ≡ n → (fs ps : List ℕ)
     (ts : List Float) → all_below n fs ≡ true
     → let w = written_over (columns_of records) c in
     map (aligned_in w.max_rt w.slope w.intercept) (observations fs ps ts)
     ≡ map (aligned records) (observations fs ps ts)
-unfolding observations aligned every
-by_records records c n e [] ps ts h = refl
-by_records records c n e (f ∷ fs) [] ts h = refl
-by_records records c n e (f ∷ fs) (p ∷ ps) [] h = refl
-by_records records c n e (f ∷ fs) (p ∷ ps) (t ∷ ts) h =
-    let both = and_true (ltb f n) (all_below n fs) h in
-    let l : f < length records = omega (arith, ltb-true f n both.0) in
+by_records records c n e =
+    let w = written_over (columns_of records) c in
+    by_cells records w.max_rt w.slope w.intercept n
+    (λ f t h.
+    let l : f < length records = omega (arith, e, h) in
     let max_rt_is = written_at (λ a. a.max_rt) records c.max_rt f nan no_alignment l in
     let slope_is = written_at (λ a. a.slope) records c.slope f nan no_alignment l in
     let intercept_is = written_at (λ a. a.intercept) records c.intercept f nan no_alignment l in
-    rw (max_rt_is, slope_is, intercept_is)
-    (ap (λ (rest : List Float). aligned_by (get_or records f no_alignment) t ∷ rest) (by_records records c n e fs ps ts both.1))
+    rw (max_rt_is, slope_is, intercept_is) refl)

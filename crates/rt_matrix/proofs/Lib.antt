@@ -4,5 +4,6 @@ pub mod Row
 pub mod Peptides
 pub mod Columns
 pub mod RecordColumns
+pub mod RecordsOf
 pub mod Fitted
 pub mod Used

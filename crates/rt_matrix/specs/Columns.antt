@@ -176,6 +176,16 @@ in_front n part whole =
 
 -- ---- lengths
 
+-- just n cells each
+pub record EachOf (n : ℕ) (c : FileColumns) : Type 0 where
+  pub max_rt : length c.max_rt ≡ n
+  pub slope : length c.slope ≡ n
+  pub intercept : length c.intercept ≡ n
+  pub used : length c.used ≡ n
+  pub max_rt_exact : length c.max_rt_exact ≡ n
+  pub slope_exact : length c.slope_exact ≡ n
+  pub intercept_exact : length c.intercept_exact ≡ n
+
 -- n cells at least
 pub record EachFrom (n : ℕ) (c : FileColumns) : Type 0 where
   pub max_rt : n ≤ length c.max_rt
