@@ -41,6 +41,15 @@ if_false false x y e = refl
 
 -- ---- the zeros before a row's first other cell
 
+zeros_step : (b : Bool) (n m : ℕ) → n ≤ m → (elim b as (λ t. ℕ) [ true ↦ suc n | false ↦ 0 ]) ≤ suc m
+zeros_step true n m h = omega arith
+zeros_step false n m h = omega arith
+
+pub zeros_within : (row : List Float) → leading_zeros row ≤ length row
+unfolding leading_zeros
+zeros_within [] = omega arith
+zeros_within (x ∷ row) = zeros_step (eq x zero64) (leading_zeros row) (length row) (zeros_within row)
+
 -- the first cell that is not zero, by its place
 pub found_place : (row : List Float) → position_or_len (λ x. not (eq x zero64)) row ≡ leading_zeros row
 unfolding leading_zeros

@@ -1,5 +1,5 @@
 -- What a system's shape gives: small counts, rows within the cells, and the same shape for as many other cells.
-use mathlib.Core.Path.{◌≡◌}
+use mathlib.Core.Path.{◌≡◌, ◌∙◌}
 use mathlib.Core.List.{List}
 use Prim.Native.Nat.{ℕ, ◌+◌, ◌*◌, ◌≤◌, ◌<◌}
 use native.Mathlib.Nat.{mul-le-mul}
@@ -22,6 +22,9 @@ module _ {A : Type 0} {n w : ℕ} {cells : List A} where
   -- the same of the row that starts at a
   pub inside_at : Shape n w cells → (i a : ℕ) → i < n → a ≡ i * w → (a + w ≤ length cells) × (length cells ≤ 10800)
   inside_at s i a h e = let k = inside s i h in (omega (arith, k.0, e), k.1)
+
+  pub shape_kept : {others : List A} → Shape n w cells → length others ≡ length cells → Shape n w others
+  shape_kept s e = record { order = s.order; wide = s.wide; left = s.left; count = e ∙ s.count }
 
 -- as many cells as a system's size says
 pub shape_of : {A : Type 0} (s : Size) (cells : List A) → length cells ≡ s.n * s.w → Shape s.n s.w cells
