@@ -157,17 +157,32 @@ lowest_cleared t i =
 
 -- ---- reading the digits off
 
--- Cells are listed, and those from j on are left: their digits, and the places and the values that are listed before
--- theirs.
-pub record Left (cells : List Float) (places : List ℕ) (values : List Float) (n left : ℕ) : Type 0 where
+-- Cells are listed behind the first n₀ places and values, the first cell at place `at`. Those from j on are left: their
+-- digits, and the places and the values that are listed before theirs.
+pub record Left
+    (at : ℕ)
+    (cells : List Float)
+    (n₀ : ℕ)
+    (places₀ : List ℕ)
+    (values₀ : List Float)
+    (places : List ℕ)
+    (values : List Float)
+    (n left : ℕ)
+    : Type 0 where
   pub j : ℕ
   pub digits : left ≡ seen_in (drop j cells) * 2 ^ j
-  pub places_are : nonzeros 0 cells ≡ take n places ++ nonzeros j (drop j cells)
-  pub values_are : nonzero_cells cells ≡ take n values ++ nonzero_cells (drop j cells)
-  pub count : n + length (nonzeros j (drop j cells)) ≡ length (nonzeros 0 cells)
+  pub places_are : take n₀ places₀ ++ nonzeros at cells ≡ take n places ++ nonzeros (at + j) (drop j cells)
+  pub values_are : take n₀ values₀ ++ nonzero_cells cells ≡ take n values ++ nonzero_cells (drop j cells)
+  pub count : n + length (nonzeros (at + j) (drop j cells)) ≡ n₀ + length (nonzeros at cells)
 
-module _ {cells : List Float} {places : List ℕ} {values : List Float} {n left : ℕ}
-    (l : Left cells places values n left) where
+pub all_left : (at : ℕ) (cells : List Float) (n : ℕ) (places : List ℕ) (values : List Float)
+    → Left at cells n places values places values n (seen_in cells)
+all_left at cells n places values =
+    let e : at + 0 ≡ at = omega arith in
+    record { j = 0; digits = sym (mul-one (seen_in cells)); places_are = rw e; values_are = refl; count = rw e }
+
+module _ {at : ℕ} {cells : List Float} {n₀ : ℕ} {places₀ : List ℕ} {values₀ : List Float} {places : List ℕ}
+    {values : List Float} {n left : ℕ} (l : Left at cells n₀ places₀ values₀ places values n left) where
   abbrev rest : List Float
   rest = drop l.j cells
 
@@ -181,13 +196,12 @@ module _ {cells : List Float} {places : List ℕ} {values : List Float} {n left 
           absurd (omega arith)
 
   -- where no digit is left, all are listed
-  pub none_left : {places₀ : List ℕ} {values₀ : List Float} → left ≡ 0
-      → Appended 0 cells 0 n places₀ places values₀ values
+  pub none_left : left ≡ 0 → Appended at cells n₀ n places₀ places values₀ values
   none_left e =
-      let none = none_seen l.j rest (nothing e) in
-      let k : length (nonzeros l.j rest) ≡ 0 = ap length none.0 in
+      let none = none_seen (at + l.j) rest (nothing e) in
+      let k : length (nonzeros (at + l.j) rest) ≡ 0 = ap length none.0 in
       record {
-        few = omega (arith, l.count, nonzeros_few 0 cells);
+        few = omega (arith, l.count, nonzeros_few at cells);
         count = omega (arith, l.count);
         places_are =
             sym (l.places_are ∙ ap (λ (t : List ℕ). take n places ++ t) none.0 ∙ append-nil (take n places));
@@ -196,9 +210,9 @@ module _ {cells : List Float} {places : List ℕ} {values : List Float} {n left 
       }
 
   -- else the lowest is the first cell's that is left
-  module _ (some : left ≡ 0 → ⊥) (most : length cells ≡ 22) where
-    first : Lowest l.j rest
-    first = lowest l.j rest (λ e. some (l.digits ∙ ap (λ (k : ℕ). k * 2 ^ l.j) e ∙ zero-mul (2 ^ l.j)))
+  module _ (some : left ≡ 0 → ⊥) (most : length cells ≤ 32) where
+    first : Lowest (at + l.j) rest
+    first = lowest (at + l.j) rest (λ e. some (l.digits ∙ ap (λ (k : ℕ). k * 2 ^ l.j) e ∙ zero-mul (2 ^ l.j)))
 
     abbrev place : ℕ
     place = l.j + first.p
@@ -226,26 +240,31 @@ module _ {cells : List Float} {places : List ℕ} {values : List Float} {n left 
         ap (count_trailing_zeros 32) odd
         ∙ zeros_below (2 * seen_in (drop next cells) + 1) place 32 (omega arith) (omega (arith, inside))
 
-    -- it is one of the 22, and there is room for what is left
-    pub place_below : count_trailing_zeros 32 left < 22
-    place_below = rw lowest_place (omega (arith, inside))
+    pub place_inside : count_trailing_zeros 32 left < length cells
+    place_inside = rw lowest_place inside
 
-    pub room_below : n < 22
-    room_below = omega (arith, l.count, nonzeros_few 0 cells, ap length first.places)
+    pub room : n < n₀ + length cells
+    room = omega (arith, l.count, nonzeros_few at cells, ap length first.places)
 
-    here : nonzeros l.j rest ≡ place ∷ nonzeros next (drop next cells)
-    here = first.places ∙ ap (λ (t : List Float). place ∷ nonzeros next t) further
+    here : nonzeros (at + l.j) rest ≡ (at + place) ∷ nonzeros (at + next) (drop next cells)
+    here =
+        first.places
+        ∙ ap₂ (λ (a b : ℕ). a ∷ nonzeros b (drop (suc first.p) rest))
+        {x = at + l.j + first.p} {y = at + place} {u = at + l.j + suc first.p} {v = at + next}
+        (omega arith) (omega arith)
+        ∙ ap (λ (t : List Float). (at + place) ∷ nonzeros (at + next) t) further
 
     more : {A : Type 0} (after : List A) (old : List A) (x : A) → n < length old
         → take n old ++ x ∷ after ≡ take (n + 1) (set old n x) ++ after
     more after old x h =
         rw (add-one n, take-suc-set old n x h) (sym (append_snoc (take n old) x after))
 
-    -- its place and its value are stored
-    pub one_less : n < length places → n < length values
-        → let k = count_trailing_zeros 32 left in
-        Left cells (set places n k) (set values n (get_or cells k nan)) (n + 1) (bit_and left (left - 1))
-    one_less h k = rw lowest_place (record {
+    -- its place q and its value x are stored
+    pub one_less : (q : ℕ) (x : Float) → q ≡ at + count_trailing_zeros 32 left
+        → x ≡ get_or cells (count_trailing_zeros 32 left) nan
+        → n < length places → n < length values
+        → Left at cells n₀ places₀ values₀ (set places n q) (set values n x) (n + 1) (bit_and left (left - 1))
+    one_less q x e f h k = rw (e, f, lowest_place) (record {
       j = next;
       digits =
           ap (λ (m : ℕ). bit_and m (m - 1)) odd
@@ -254,7 +273,7 @@ module _ {cells : List Float} {places : List ℕ} {values : List Float} {n left 
       places_are =
           l.places_are
           ∙ ap (λ (t : List ℕ). take n places ++ t) here
-          ∙ more (nonzeros next (drop next cells)) places place h;
+          ∙ more (nonzeros (at + next) (drop next cells)) places (at + place) h;
       values_are =
           l.values_are
           ∙ ap (λ (t : List Float). take n values ++ t)
@@ -264,3 +283,17 @@ module _ {cells : List Float} {places : List ℕ} {values : List Float} {n left 
           ∙ more (nonzero_cells (drop next cells)) values (get_or cells place nan) k;
       count = omega (arith, l.count, ap length here);
     })
+
+-- The same of 22 cells: the lowest digit's place is one of theirs, and there is room for what is left.
+module _ {at : ℕ} {cells : List Float} {n₀ : ℕ} {places₀ : List ℕ} {values₀ : List Float} {places : List ℕ}
+    {values : List Float} {n left : ℕ} (l : Left at cells n₀ places₀ values₀ places values n left)
+    (some : left ≡ 0 → ⊥) (size : length cells ≡ 22) where
+  pub place_below : count_trailing_zeros 32 left < 22
+  place_below =
+      let most : length cells ≤ 32 = omega arith in
+      omega (arith, place_inside l some most)
+
+  pub room_below : n < n₀ + 22
+  room_below =
+      let most : length cells ≤ 32 = omega arith in
+      omega (arith, room l some most)

@@ -1,9 +1,18 @@
 -- `embedding::listing::Listing::push_counts` meets its contract. The loop's invariant: the cells from some place on are
 -- left, and `left` has their digits.
+use mathlib.Core.Path.{refl}
 use native.Mathlib.Omega.{arith}
 use borrow.Author.Rules.{rules}
-use Rattle.embedding.proofs.Seen.{none_left, place_below, room_below, one_less}
+use Rattle.embedding.proofs.Seen.{all_left, none_left, place_below, room_below, one_less}
 use Rattle.embedding.proofs.listing.Listing.push_counts.Goals as goal
+
+pub loop-left-init : goal.loop-left-init
+loop-left-init c =
+    let a = c.args in
+    let listing = a.self.now in record {
+      lent = search rules;
+      listed = rw c.requires.seen_value.0 (all_left 0 a.counts.now 0 listing.places.now listing.values.now);
+    }
 
 pub bounds-self-n : goal.bounds-self-n
 bounds-self-n c =
@@ -26,7 +35,8 @@ loop-left-preserved c =
     let size = c.requires.seen_value.1 in
     let below = room_below i.listed some size in record {
       lent = search rules;
-      listed = one_less i.listed some size (omega (arith, i.lent.places_length)) (omega (arith, i.lent.values_length));
+      listed = one_less i.listed some (omega (arith, size)) _ _ (omega arith) refl
+          (omega (arith, i.lent.places_length)) (omega (arith, i.lent.values_length));
     }
 
 pub returns-clause-listed : goal.returns-clause-listed
