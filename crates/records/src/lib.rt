@@ -30,8 +30,9 @@ pub fn record_of(records: &[Alignment], file: u32) -> Result<Alignment, Refusal>
     Ok(canonical(*found))
 }
 
-// A time by what a lookup found; what says why it found nothing may be of any type, and is passed on.
-pub fn time_by<E>(found: Result<Alignment, E>, rt: f32) -> Result<f32, E>
+// A time by what a lookup found. What says why it found nothing may be of any type that can be let go, and is passed
+// on.
+pub fn time_by<E: Drop>(found: Result<Alignment, E>, rt: f32) -> Result<f32, E>
     ensures { TimeByCall found rt result }
 {
     let a = found?;

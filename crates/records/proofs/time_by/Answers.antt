@@ -1,10 +1,8 @@
 -- `records::time_by` meets its contract: what was found decides.
 use mathlib.Core.Path.{sym, ap, ◌∙◌}
 use lib.Ieee.{Float}
-use Rattle.std.specs.Prelude.{Result, Ok}
+use Rattle.std.specs.Prelude.{Ok}
 use Rattle.std.proofs.lemmas.Result.{err_from_is_err_and}
-use Rattle.status.specs.declared.Refusal.{Refusal}
-use Rattle.rt_matrix.specs.declared.Alignment.{Alignment}
 use Rattle.records.specs.Record.{time_by}
 use Rattle.records.proofs.Calls.{timed}
 use Rattle.records.proofs.time_by.Goals as goal
