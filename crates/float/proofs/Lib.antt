@@ -5,6 +5,7 @@ pub mod Laws
 pub mod Nan
 pub mod Order
 pub mod Products
+pub mod Round
 pub mod Whole
 pub mod Zeros
 mod Library

@@ -1,7 +1,8 @@
 -- A NaN by its tests, of a value and of a bit pattern, over the format.
-use Rattle.std.proofs.Common.{◌≡◌, ℕ, true, false, T, sym, refl, ◌∙◌, subst, true≢false}
-use lib.Ieee.{Float, nan, inf, fin, Format, binary32, binary64, div, ne, is_nan, of_bits, nan_bits}
-use lib.Ieee.Bits.{nan_bits_is}
+use Rattle.std.proofs.Common.{◌≡◌, ℕ, ◌*◌, ◌%◌, ◌≤◌, Bool, true, false, not, T, sym, refl, ◌∙◌, subst, true≢false}
+use lib.Arith.{le→nltb}
+use lib.Ieee.{Float, nan, inf, fin, Format, binary32, binary64, div, ne, is_nan, of_bits, nan_bits, hid, ones, top}
+use lib.Ieee.Bits.{nan_bits_is, nan_bits_above}
 use lib.Ieee.Compare.{differs_from_itself}
 
 -- ---- the test `x != x`
@@ -33,3 +34,7 @@ the_only (fin s m e) t = absurd t
 
 pub pattern_nan : (f : Format) (b : ℕ) → T (nan_bits f b) → of_bits f b ≡ nan
 pattern_nan f b h = the_only (of_bits f b) (subst T (nan_bits_is f b) h)
+
+-- not above an infinity's, the sign left out
+pub not_above : (f : Format) (b : ℕ) → b % top f ≤ ones f * hid f → T (not (nan_bits f b))
+not_above f b h = subst (λ (t : Bool). T (not t)) (sym (nan_bits_above f b)) (le→nltb (ones f * hid f) (b % top f) h)

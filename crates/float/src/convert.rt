@@ -1,8 +1,11 @@
 // Conversions between the two float formats and the integers.
-ghost use Rattle.std.specs.Prelude.{◌≡◌, pos};
+ghost use Rattle.std.specs.Prelude.{◌≡◌, ◌^◌, ◌<◌, ◌≤◌, pos};
 ghost use Rattle.std.specs.Float.{binary32, binary64};
 ghost use Rattle.std.specs.Float.Ieee.{of_int};
+ghost use Rattle.std.specs.Float.Ieee.Nearest.{closest};
 ghost use Rattle.float.specs.Convert.{narrowed, is_exact, ceiling};
+
+use crate::bits::bits64;
 
 // An f64 as an f32, and whether nothing was lost: the two are equal, which a NaN never is. The f32 is wanted where
 // something was lost too, so this is no Option.
@@ -19,12 +22,47 @@ pub fn narrow(x: f64) -> Narrowed
     ensures value_value { result.value ≡ narrowed x }
     ensures exact_value { result.exact ≡ is_exact x }
 {
-    let value = std::num::nearest_f64_to_f32_with_nan(x);
+    let value = nearest_f32(x);
     let wide = widen(value);
     Narrowed {
         value,
         exact: wide == x,
     }
+}
+
+// The f32 of `narrow`. A size from 2^-126 to below 2^128 is rounded here, by its digits: the library, which rounds the
+// rest, takes a quarter longer.
+fn nearest_f32(x: f64) -> f32
+    ensures { result ≡ narrowed x }
+{
+    let b = bits64(x);
+    let e = b % 0x8000_0000_0000_0000 / 0x10_0000_0000_0000;
+    if e < 897 || 1150 < e {
+        return std::num::nearest_f64_to_f32_with_nan(x);
+    }
+    let p = (e - 897) * 0x80_0000
+        + shift_right_nearest(0x10_0000_0000_0000 + b % 0x10_0000_0000_0000, 29);
+    if b < 0x8000_0000_0000_0000 {
+        return f32::from_bits(p as u32);
+    }
+    f32::from_bits((0x8000_0000 + p) as u32)
+}
+
+// v / 2^h to the nearest whole number, a tie to the even one.
+fn shift_right_nearest(v: u64, h: u64) -> u64
+    requires { (1 ≤ h) × (h < 63) }
+    ensures { result ≡ closest v (2 ^ h) }
+{
+    let u: u64 = 1 << h;
+    let q: u64 = v >> h;
+    let r: u64 = (v & (u - 1)) * 2;
+    if r < u {
+        return q;
+    }
+    if u < r {
+        return q + 1;
+    }
+    q + q % 2
 }
 
 // x as an f64, which holds every f32. A NaN gives 7FF8000000000000.
