@@ -5,8 +5,8 @@ ghost use Rattle.elimination.specs.Rows.{max_width};
 // The cells of the widest row, left and right.
 pub(crate) const MAX_WIDTH: usize = status::MAX_ORDER + status::MAX_COLUMNS;
 
-// `dst` becomes `src`. For the crate regression too. A loop: `copy_from_slice` of two slices that are lent calls memmove,
-// which a host would then have to bring.
+// `dst` becomes `src`. For the crate regression too. A loop: `copy_from_slice` of two slices that are lent calls
+// memmove, which a host would then have to bring.
 pub fn copy(dst: &mut [f64], src: &[f64])
     requires { length dst.old ≡ length src.now }
     ensures { dst.new ≡ src.now }

@@ -29,7 +29,7 @@ align_accepted-requires c =
     let i : Input = input_at a.batch in
     let s : Slices =
     slices_at a.workspace (held_columns a.records.now) a.aligned (outputs_held a.retention) (outputs_held a.mobility) in
-    let p : Passed i (room_of s) = passed i (room_of s) (accepted_status _ c.in_ok-check.ensures) in
+    let p : Passed i (room_of s) = passed i (room_of s) (accepted_status _ (search rules)) in
     align_accepts_by i (room_of s) p (held_input c.observations.result) c.observations.ensures
 
 pub slice_bounds-times-end : goal.slice_bounds-times-end
