@@ -14,12 +14,16 @@ use Rattle.records.specs.Record.{
   record_at,
   record_of,
   time_by,
+  time_by_number,
+  time_found,
   told_by,
   time_told_in,
   time_found_in,
+  time_told_by,
   time_told,
   LookupCall,
   TimeByCall,
+  TimeByNumberCall,
   AlignedCall,
 }
 use Rattle.status.specs.declared.Refusal.{Refusal}
@@ -40,7 +44,7 @@ time_told_lem true a rt = refl
 time_told_lem false a rt = refl
 
 time_by_lem : {E : Type 0} (number : E → ℕ) (found : Result Alignment E) (rt : Float)
-    → time_told_in number (time_by found rt) ≡ time_found_in number found rt
+    → time_told_in number (time_found found rt) ≡ time_found_in number found rt
 time_by_lem number (Ok a) rt = refl
 time_by_lem number (Err r) rt = refl
 
@@ -49,10 +53,12 @@ pub lookup : (records : List Alignment) (file : ℕ) (r : Result Alignment Refus
 lookup records file r e =
     record { answer = e; told = ap told_by e ∙ found_told_lem (reaches records file) (record_at records file) }
 
-pub timed : {E : Type 0} (found : Result Alignment E) (rt : Float) (r : Result Float E) → r ≡ time_by found rt
-    → TimeByCall found rt r
-timed found rt r e =
-    record { answer = e; told = λ number. ap (time_told_in number) e ∙ time_by_lem number found rt }
+pub timed : (found : Result Alignment Refusal) (rt : Float) (r : Result Float Refusal) → r ≡ time_by found rt → TimeByCall found rt r
+timed found rt r e = record { answer = e; told = ap time_told_by e ∙ time_by_lem number_of found rt }
+
+pub numbered : (found : Result Alignment ℕ) (rt : Float) (r : Result Float ℕ) → r ≡ time_by_number found rt
+    → TimeByNumberCall found rt r
+numbered found rt r e = record { answer = e; told = ap (time_told_in (λ n. n)) e ∙ time_by_lem (λ n. n) found rt }
 
 -- a lookup, and then a time by what it found
 pub looked_up_and_timed : (records : List Alignment) (file : ℕ) (rt : Float) (found : Result Alignment Refusal) (r : Result Float Refusal)
@@ -61,7 +67,7 @@ looked_up_and_timed records file rt found r l t =
     record {
       answer = t.answer ∙ ap (λ (g : Result Alignment Refusal). time_by g rt) l.answer;
       told =
-          t.told number_of
+          t.told
           ∙ ap (λ (g : Result Alignment Refusal). time_told g rt) l.answer
           ∙ time_told_lem (reaches records file) (record_at records file) rt;
     }

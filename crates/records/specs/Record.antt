@@ -22,9 +22,16 @@ abbrev pub record_of : List Alignment → ℕ → Result Alignment Refusal
 record_of records file = cond (reaches records file) (Ok (record_at records file)) (Err BadFile)
 
 -- a time by what a lookup found, whatever says why it found nothing
-abbrev pub time_by : {E : Type 0} → Result Alignment E → Float → Result Float E
-time_by (Ok a) rt = Ok (aligned_by a rt)
-time_by (Err r) rt = Err r
+abbrev pub time_found : {E : Type 0} → Result Alignment E → Float → Result Float E
+time_found (Ok a) rt = Ok (aligned_by a rt)
+time_found (Err r) rt = Err r
+
+-- the same where a refusal of the table says it, and where a number of any kind does
+abbrev pub time_by : Result Alignment Refusal → Float → Result Float Refusal
+time_by found rt = time_found found rt
+
+abbrev pub time_by_number : Result Alignment ℕ → Float → Result Float ℕ
+time_by_number found rt = time_found found rt
 
 -- ---- what every case of an answer tells
 
@@ -60,10 +67,15 @@ pub record LookupCall (records : List Alignment) (file : ℕ) (r : Result Alignm
   pub answer : r ≡ record_of records file
   pub told : told_by r ≡ told_for (status records file) (gives (record_at records file))
 
--- of `time_by`: the status of what was found stays, whatever numbers there are
-pub record TimeByCall {E : Type 0} (found : Result Alignment E) (rt : Float) (r : Result Float E) : Type 0 where
+-- of `time_by`: the status of what was found stays
+pub record TimeByCall (found : Result Alignment Refusal) (rt : Float) (r : Result Float Refusal) : Type 0 where
   pub answer : r ≡ time_by found rt
-  pub told : (number : E → ℕ) → time_told_in number r ≡ time_found_in number found rt
+  pub told : time_told_by r ≡ time_told found rt
+
+-- of `time_by_number`: the number stays, whichever it is
+pub record TimeByNumberCall (found : Result Alignment ℕ) (rt : Float) (r : Result Float ℕ) : Type 0 where
+  pub answer : r ≡ time_by_number found rt
+  pub told : time_told_in (λ n. n) r ≡ time_found_in (λ n. n) found rt
 
 -- of `aligned`
 pub record AlignedCall (records : List Alignment) (file : ℕ) (rt : Float) (r : Result Float Refusal) : Type 0 where

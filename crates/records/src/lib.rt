@@ -2,7 +2,7 @@
 #![tactic(auto)]
 
 ghost use Rattle.std.specs.Prelude.{◌≡◌};
-ghost use Rattle.records.specs.Record.{LookupCall, TimeByCall, AlignedCall};
+ghost use Rattle.records.specs.Record.{time_found, LookupCall, TimeByCall, TimeByNumberCall, AlignedCall};
 
 pub use retention_alignment::Alignment;
 use status::Refusal;
@@ -30,13 +30,26 @@ pub fn record_of(records: &[Alignment], file: u32) -> Result<Alignment, Refusal>
     Ok(canonical(*found))
 }
 
-// A time by what a lookup found. What says why it found nothing may be of any type that can be let go, and is passed
-// on.
-pub fn time_by<E: Drop>(found: Result<Alignment, E>, rt: f32) -> Result<f32, E>
-    ensures { TimeByCall found rt result }
+// A time by what a lookup found. What says why it found nothing is passed on.
+fn time_found<E: Drop>(found: Result<Alignment, E>, rt: f32) -> Result<f32, E>
+    ensures { result ≡ time_found found rt }
 {
     let a = found?;
     Ok(retention_alignment::aligned_time(a.max_rt, a.slope, a.intercept, rt))
+}
+
+// A time by what a lookup found.
+pub fn time_by(found: Result<Alignment, Refusal>, rt: f32) -> Result<f32, Refusal>
+    ensures { TimeByCall found rt result }
+{
+    time_found(found, rt)
+}
+
+// The same of a lookup whose refusal is a number of any kind: for who looks up with numbers of its own.
+pub fn time_by_number(numbered: Result<Alignment, u8>, rt: f32) -> Result<f32, u8>
+    ensures { TimeByNumberCall numbered rt result }
+{
+    time_found(numbered, rt)
 }
 
 // The aligned time of a row with this file and this time, by the record that the list has for the file.
