@@ -36,12 +36,12 @@ abbrev telling : (s n : ℕ) → Told ℕ
 telling s n = record { status = s; values = some n }
 
 -- what an answer says was written is the value that it tells
-written_in_lem : (r : Result ℕ (Refused Refusal)) (s n : ℕ) → told_by r ≡ telling s n → written_in r ≡ n
+written_in_lem : (r : Result ℕ Refused) (s n : ℕ) → told_by r ≡ telling s n → written_in r ≡ n
 written_in_lem (Ok m) s n e = let v : some m ≡ some n = ap (λ (t : Told ℕ). t.values) e in cc
 written_in_lem (Err q) s n e = let v : some q.written ≡ some n = ap (λ (t : Told ℕ). t.values) e in cc
 
 -- the answer with a refusal
-abbrev pub refusing : Refusal → ℕ → Result ℕ (Refused Refusal)
+abbrev pub refusing : Refusal → ℕ → Result ℕ Refused
 refusing q n = Err (record { status = q; written = n })
 
 accepted_answer : (s n : ℕ) → s ≡ accepted → Ok n ≡ answer_of s n
@@ -88,8 +88,7 @@ module _ (t before : List ℕ) where
   too_long f = ap (λ (b : Bool). cond (eqb (text_status t) accepted) (cond b accepted too_short) (text_status t)) f
 
   -- an answer that is made of the number and of what is written
-  of_parts : (s n : ℕ) (r : Result ℕ (Refused Refusal)) (after : List ℕ)
-      → call_status t before ≡ s → written_to t before ≡ n
+  of_parts : (s n : ℕ) (r : Result ℕ Refused) (after : List ℕ) → call_status t before ≡ s → written_to t before ≡ n
       → r ≡ answer_of s n → told_by r ≡ telling s n
       → after ≡ cond (fits (align_text t) before) (overwritten (align_text t) before) before
       → Answered t before r after
@@ -160,7 +159,7 @@ module _ (t before : List ℕ) where
         set
 
 -- what is said to be written fits
-pub written_fits : (t before : List ℕ) (r : Result ℕ (Refused Refusal)) (after : List ℕ) → Answered t before r after
+pub written_fits : (t before : List ℕ) (r : Result ℕ Refused) (after : List ℕ) → Answered t before r after
     → written_in r ≤ length before
 written_fits t before r after w = go (fits (align_text t) before) refl (written_in_lem r _ _ w.told)
   where

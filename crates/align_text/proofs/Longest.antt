@@ -26,7 +26,6 @@ use Rattle.align_output.specs.Output.{printed_of, status_text}
 use Rattle.align_output.specs.declared.Printed.{Printed}
 use Rattle.align_output.proofs.Lengths.{Counted, status_length, accepted_length}
 use Rattle.std.specs.Prelude.{Result}
-use Rattle.status.specs.declared.Refusal.{Refusal}
 use Rattle.align_text.specs.declared.Refused.{Refused}
 use Rattle.align_text.specs.AlignText.{
   max_files,
@@ -117,7 +116,7 @@ unfolding align_text_with
 text_short t = answer_short (parse t)
 
 -- an output of that length takes every answer: the call's number is the text's, and what is written is the whole text
-pub always_written : (t before : List ℕ) (r : Result ℕ (Refused Refusal)) (after : List ℕ) → Answered t before r after
+pub always_written : (t before : List ℕ) (r : Result ℕ Refused) (after : List ℕ) → Answered t before r after
     → longest ≤ length before
     → (r ≡ answer_of (text_status t) (length (align_text t))) × (after ≡ overwritten (align_text t) before)
 always_written t before r after w h =

@@ -13,7 +13,6 @@ use Rattle.align_input.specs.Input.{Input}
 use Rattle.align_input.specs.Parse.{parse}
 use Rattle.align_input.specs.Columns.{q_of, rt_of}
 use Rattle.align_output.specs.Output.{printed_of, status_text, accepted_text}
-use Rattle.status.specs.declared.Refusal.{Refusal}
 use Rattle.align_text.specs.declared.Refused.{Refused}
 
 -- the program's limits
@@ -123,22 +122,27 @@ abbrev pub written_to : (input output : List ℕ) → ℕ
 written_to input output = cond (fits (align_text input) output) (length (align_text input)) 0
 
 -- the answer with a number, and so many bytes written
-unfoldable pub answer_of : (status written : ℕ) → Result ℕ (Refused Refusal)
+unfoldable pub answer_of : (status written : ℕ) → Result ℕ Refused
 answer_of s n = if_accepted s (Ok n) (Err (record { status = refusal_by s; written = n }))
 
 -- how many bytes an answer says were written
-abbrev pub written_in : {S : Type 0} → Result ℕ (Refused S) → ℕ
+abbrev pub written_in : Result ℕ Refused → ℕ
 written_in (Ok n) = n
 written_in (Err r) = r.written
 
+-- the same of an answer whose refusals are a status that is any number, and a number of bytes
+abbrev pub written_by_number : Result ℕ (ℕ × ℕ) → ℕ
+written_by_number (Ok n) = n
+written_by_number (Err r) = r.1
+
 -- what every case of an answer tells: a refused one too has a value, how many bytes were written
-abbrev pub told_by : Result ℕ (Refused Refusal) → Told ℕ
+abbrev pub told_by : Result ℕ Refused → Told ℕ
 told_by (Ok n) = gives n
 told_by (Err r) = record { status = number_of r.status; values = some r.written }
 
 -- The contract: the answer, what it tells, and the whole slice after the call. An answer that does not fit leaves the
 -- slice as it was.
-pub record Answered (input before : List ℕ) (r : Result ℕ (Refused Refusal)) (after : List ℕ) : Type 0 where
+pub record Answered (input before : List ℕ) (r : Result ℕ Refused) (after : List ℕ) : Type 0 where
   pub answer : r ≡ answer_of (call_status input before) (written_to input before)
   pub told : told_by r ≡ record { status = call_status input before; values = some (written_to input before) }
   pub output : after ≡ cond (fits (align_text input) before) (overwritten (align_text input) before) before

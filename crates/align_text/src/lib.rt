@@ -12,6 +12,7 @@ ghost use Rattle.align_text.specs.AlignText.{
   text_status,
   align_text,
   written_in,
+  written_by_number,
   Answered,
 };
 ghost use Rattle.align_text.specs.Ready.{Ready};
@@ -35,23 +36,34 @@ const CELLS_MAX: usize = 1024;
 // Bytes of the buffer that an answer is made in. An answer has at most 5,650.
 const TEXT_MAX: usize = 8192;
 
-// A call that wrote no alignment. `align_text`'s status is a `Refusal`; `written` takes any that may be dropped.
+// A call that wrote no alignment.
 #[derive(Clone, Copy, Debug, PartialEq, Eq)]
-pub struct Refused<S = Refusal> {
+pub struct Refused {
     // The text's status, or TooShort where the text is accepted and its answer does not fit.
-    pub status: S,
+    pub status: Refusal,
     // How many bytes of the output the line of the text's status has: 0 where nothing is written, since it does not
     // fit or the text is accepted.
     pub written: usize,
 }
 
-// How many bytes of the output a call wrote, whatever the status is.
-pub fn written<S: Drop>(answer: Result<usize, Refused<S>>) -> usize
+// How many bytes of the output a call wrote.
+pub fn written(answer: Result<usize, Refused>) -> usize
     ensures { result ≡ written_in answer }
 {
     match answer {
         Ok(n) => n,
         Err(refused) => refused.written,
+    }
+}
+
+// The same for who has statuses that are numbers of any kind: a refusal is the status, and how many bytes of the output
+// its line has.
+pub fn written_by_number(answer: Result<usize, (u8, usize)>) -> usize
+    ensures { result ≡ written_by_number answer }
+{
+    match answer {
+        Ok(n) => n,
+        Err((_, n)) => n,
     }
 }
 
