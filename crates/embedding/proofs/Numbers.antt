@@ -1,6 +1,7 @@
 -- Whole numbers as cells: which are zero, their quotients, and which of those are zero.
 use mathlib.Core.Path.{◌≡◌, refl, sym, ap, ◌∙◌}
 use mathlib.Core.Bool.{Bool, true, false, cond, false≢true}
+use mathlib.Core.List.{List, [], ◌∷◌, map}
 use Prim.Native.Nat.{ℕ, zero, suc, ◌+◌, ◌*◌, ◌/◌, ◌^◌, ◌≤◌, ◌<◌}
 use native.Mathlib.Nat.{mul-one, mul-pos, mul_assoc, mul_comm, zero-mul}
 use native.Mathlib.Nat.{zero-lt-suc, le_trans, le_of_eq, mul-le-mul_right, one-mul}
@@ -8,6 +9,7 @@ use native.Mathlib.Omega.{arith}
 use lib.Count.{count_trailing_zeros}
 use lib.Dec.{ltb, lit≤}
 use lib.IntN.{ℤ, pos}
+use lib.ListN.{get_or}
 use lib.Ieee.{Float, nan, inf, fin, Format, up, down, binary64, low, prec, emax, round, units, odd, div, of_int}
 use lib.Ieee.Back.{round_whole}
 use lib.Ieee.Exact.{HasValue}
@@ -18,6 +20,7 @@ use Rattle.float.specs.Number.{number}
 use Rattle.float.specs.Value.{is_finite, is_zero, not_minus_zero}
 use Rattle.float.proofs.Zeros.{round_zero, round_something}
 use Rattle.embedding.specs.Design.{share}
+use Rattle.embedding.specs.Listing.{seen_in}
 
 -- ---- which whole numbers are zero
 
@@ -122,3 +125,12 @@ share_zero n (suc c) h l m =
     small =
         le_trans (le_trans (lit≤ tt) (le_of_eq (sym (one-mul (2 ^ low binary64)))))
         (mul-le-mul_right {m = 1} {n = suc c} (2 ^ low binary64) (omega arith))
+
+-- ---- a row of shares
+
+-- the shares that are not zero are those of the counts that are not
+pub shares_seen : (n : ℕ) → 0 < n → n ≤ 2 ^ 53 → (cs : List ℕ) → ((k : ℕ) → get_or cs k 0 ≤ 2 ^ 53)
+    → seen_in (map (share n) cs) ≡ seen_in (map number cs)
+unfolding seen_in
+shares_seen n h l [] b = refl
+shares_seen n h l (c ∷ cs) b = rw (share_zero n c h l (b 0), shares_seen n h l cs (λ k. b (suc k)))

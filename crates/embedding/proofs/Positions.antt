@@ -147,3 +147,17 @@ pub chosen_c : (model : Model) (letters : List ℕ)
     ≡ drop (2 + (end_of model (length letters) - 4)) (take (end_of model (length letters)) letters)
 unfolding chosen
 chosen_c model letters = picked_range _ _ _ letters (λ j h. c_range model (length letters) j h)
+
+-- no selection has more letters than there are
+pub chosen_le : (sel : ℕ → ℕ → Bool) (letters : List ℕ) → length (chosen sel letters) ≤ length letters
+unfolding chosen
+chosen_le sel letters = from 0 letters
+  where
+    by : (t : Bool) (x : ℕ) (xs : List ℕ) (n : ℕ) → length xs ≤ n → length (cond t (x ∷ xs) xs) ≤ suc n
+    by true x xs n h = omega arith
+    by false x xs n h = omega arith
+
+    from : (i : ℕ) (xs : List ℕ) → length (picked (sel (length letters)) i xs) ≤ length xs
+    from i [] = omega arith
+    from i (x ∷ xs) =
+        by (sel (length letters) i) x (picked (sel (length letters)) (suc i) xs) (length xs) (from (suc i) xs)

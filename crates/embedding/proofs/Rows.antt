@@ -8,12 +8,12 @@ use native.Mathlib.Nat.{le_of_suc-le-suc, le_trans, not-suc-le-zero, sub-zero, s
 use native.Mathlib.Omega.{arith}
 use lib.Dec.{lit≤}
 use lib.Ieee.{Float, binary64, add, of_bits, of_int}
-use lib.ListN.{length, length-append, get_or, set, take, drop, length-take, length-drop, take-append-drop, drop_of_length-le}
-use lib.Seq.{take-nil, take_at, drop_at, drop-append-le, drop-drop}
+use lib.ListN.{length, length-append, get_or, set, take, drop, replicate, length-take, length-drop, take-append-drop, drop_of_length-le}
+use lib.Seq.{length-take-le, take-nil, take_at, drop_at, drop-append-le, drop-drop}
 use Rattle.mass.specs.Mass.{column_of}
 use Rattle.mass.proofs.Laws.{column_below}
 use Rattle.matrix.specs.Lists.{overwritten}
-use Rattle.embedding.specs.Count.{range, tallied}
+use Rattle.embedding.specs.Count.{how_many, range, tallied}
 use Rattle.float.specs.Number.{number, zero64}
 use Rattle.float.proofs.Whole.{number_add}
 use Rattle.embedding.specs.declared.Model.TheVariants.{Retention}
@@ -95,7 +95,7 @@ thousand = refl
 -- ---- cells that count
 
 -- a cell of whole numbers gains 1.0
-cell_more : (cs : List ℕ) (k : ℕ) (d : Float) → k < length cs → get_or cs k 0 ≤ 2 ^ 53
+pub cell_more : (cs : List ℕ) (k : ℕ) (d : Float) → k < length cs → get_or cs k 0 ≤ 2 ^ 53
     → set (map number cs) k (add binary64 (get_or (map number cs) k d) (number 1))
     ≡ map number (set cs k (get_or cs k 0 + 1))
 cell_more [] k d h b = absurd (not-suc-le-zero h)
@@ -169,3 +169,14 @@ pub retention_whole : (letters : List ℕ) (log : Float)
 retention_whole letters log =
     ap (λ (t : List Float). t ++ drop 22 (retention_row letters log)) (sym (retention_first letters log))
     ∙ take-append-drop 22 (retention_row letters log)
+
+-- 22 cells that are cleared are the counts of no letter, and the cells behind them stay
+pub cleared : (old back : List Float) → 22 ≤ length old → back ≡ replicate (length (take 22 old)) zero64
+    → (back ++ drop 22 old ≡ map number (tallied (range 0 22) []) ++ drop 22 (back ++ drop 22 old))
+    × (drop 22 (back ++ drop 22 old) ≡ drop 22 old)
+unfolding tallied range how_many of_bits of_int
+cleared old back h e =
+    let z : back ≡ replicate 22 zero64 =
+    e ∙ ap (λ (n : ℕ). replicate n zero64) {x = length (take 22 old)} {y = 22} (length-take-le 22 old h) in
+    let r : drop 22 (back ++ drop 22 old) ≡ drop 22 old = ap (λ (b : List Float). drop 22 (b ++ drop 22 old)) z in
+    (ap (λ (b : List Float). b ++ drop 22 old) z ∙ ap (λ (t : List Float). replicate 22 zero64 ++ t) (sym r), r)

@@ -8,8 +8,8 @@ use native.Mathlib.Numerals.{add-one}
 use native.Mathlib.Nat.{le_of_suc-le-suc, not-suc-le-zero}
 use native.Mathlib.Decide.{dec_lt}
 use native.Mathlib.Omega.{arith}
-use lib.Ieee.{Float}
-use lib.ListN.{length, get_or, set, take, length-map, get_or-append, get_or-eq_default}
+use lib.Ieee.{Float, nan, binary64, div}
+use lib.ListN.{length, get_or, set, take, length-map, get_or-map, get_or-append, get_or-eq_default}
 use lib.Seq.{take-suc-set, length-take-le}
 use Rattle.std.proofs.lemmas.List.{get_or-take}
 use Rattle.float.specs.Number.{number}
@@ -18,10 +18,10 @@ use Rattle.matrix.specs.Nonzero.{nonzeros, nonzero_cells}
 use Rattle.mass.specs.Mass.{column_of}
 use Rattle.embedding.specs.Count.{range, tallied}
 use Rattle.embedding.specs.Design.{column_counts, share}
-use Rattle.embedding.specs.Listing.{Appended, divided}
+use Rattle.embedding.specs.Listing.{Appended, seen_in, divided}
 use Rattle.embedding.proofs.Counting.{length_tally, tally_le, map_take_suc}
 use Rattle.embedding.proofs.Appending.{both_listed, length_counted}
-use Rattle.embedding.proofs.Numbers.{share_zero}
+use Rattle.embedding.proofs.Numbers.{share_zero, shares_seen}
 
 -- one cell more of a list that is copied, each cell changed by f, behind its first n cells
 pub copied_next : {A : Type 0} (f : A → A) (d : A) (n i : ℕ) (old xs : List A) → i < n → n + n ≤ length xs
@@ -138,3 +138,27 @@ place_listed {r} {cells} {p₀} {p₁} a k h =
     sym (get_or-take r p₁ k 0 h) ∙ ap (λ (t : List ℕ). get_or t k 0) a.places_are in
     let b = nonzero_below 0 cells k (omega (arith, a.count)) in
     omega arith
+
+-- ---- all shares
+
+-- one share
+pub share_at : (whole : Float) (cells : List Float) (k : ℕ)
+    → div binary64 (get_or cells k nan) whole ≡ get_or (divided whole cells) k nan
+unfolding div
+share_at whole cells k = sym (get_or-map (λ x. div binary64 x whole) cells k nan)
+
+-- the shares of a peptide's counts
+module _ (letters : List ℕ) {counts : List Float} {whole : Float} (are : counts ≡ map number (column_counts letters))
+    (is : whole ≡ number (length letters)) where
+  pub shares_are : divided whole counts ≡ map (share (length letters)) (column_counts letters)
+  unfolding column_counts
+  shares_are = rw (are, is)
+
+  -- the shares that are not zero are those of the counts that are not
+  pub counts_seen : 0 < length letters → length letters < 2 ^ 32 → seen_in counts ≡ seen_in (divided whole counts)
+  counts_seen some short =
+      ap seen_in are
+      ∙ sym
+      (ap seen_in shares_are
+      ∙ shares_seen (length letters) some (omega arith) (column_counts letters)
+      (λ k. omega (arith, counts_le letters k)))

@@ -46,6 +46,32 @@ module _ (ms : List ℕ) where
   unfolding rows_of
   rows_done left n e = rw e refl
 
+-- ---- what a row counts, place by place
+
+module _ {A : Type 0} (step : A → Float → Float → A) (count : A → ℕ)
+    (counted : (s : A) → (x y : Float) → count (step s x y) ≤ count s + 1) where
+  row_counts : (y : Float) (states : List A) (row : List (Option Float)) (k : ℕ) (d : A)
+      → count (get_or (zipped (at_cell step y) states row) k d) ≤ count (get_or states k d) + 1
+  unfolding zipped at_cell
+  row_counts y [] row k d = omega arith
+  row_counts y (s ∷ states) [] k d = omega arith
+  row_counts y (s ∷ states) (none ∷ row) zero d = omega arith
+  row_counts y (s ∷ states) (some x ∷ row) zero d = counted s x y
+  row_counts y (s ∷ states) (none ∷ row) (suc k) d = row_counts y states row k d
+  row_counts y (s ∷ states) (some x ∷ row) (suc k) d = row_counts y states row k d
+
+  -- a row more counts at most one point more in each file
+  pub one_more : (states : List A) (row : List (Option Float)) (k : ℕ) (d : A)
+      → count (get_or (after_row step states row) k d) ≤ count (get_or states k d) + 1
+  unfolding after_row
+  one_more states row k d = go (is_normal binary64 (mean row))
+    where
+      go : (b : Bool)
+          → count (get_or (cond b (zipped (at_cell step (mean row)) states row) states) k d)
+          ≤ count (get_or states k d) + 1
+      go true = row_counts (mean row) states row k d
+      go false = omega arith
+
 -- ---- room for the points of the peptides that are left
 
 module _ {A : Type 0} (step : A → Float → Float → A) (count : A → ℕ)
