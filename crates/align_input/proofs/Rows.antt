@@ -105,6 +105,14 @@ storing_cons : (c : Columns) (i : ℕ) (r : TextRow) (o : Option (List TextRow))
 storing_cons c i r None = refl
 storing_cons c i r (Some rows) = ap (λ (k : ℕ). Some (stored (stored_row c i r) k rows)) (sym (add-one i))
 
+-- columns are equal where each is
+pub columns_eq : {c d : Columns} → c.file ≡ d.file → c.peptide ≡ d.peptide → c.label ≡ d.label → c.q ≡ d.q
+    → c.rt ≡ d.rt → c ≡ d
+columns_eq {c} {d} a b l q t =
+    let of : (f p : List ℕ) → Columns = λ f p. record { file = f; peptide = p; label = c.label; q = c.q; rt = c.rt } in
+    let rest : ◌≡◌ {A = Columns} (of d.file d.peptide) d = rw (l, q, t) refl in
+    ap (λ (f : List ℕ). of f c.peptide) a ∙ ap (of d.file) b ∙ rest
+
 -- a row that is stored leaves the columns as long as they were
 pub same_row : {c d : Columns} (i : ℕ) (r : TextRow) → Same c d → Same c (stored_row d i r)
 same_row i r s =

@@ -162,6 +162,33 @@ pub record RowsIn (t : List ℕ) (z : Sizes) (c : Columns) : Type 0 where
   pub status : columns_status (front z c) ≡ text_status t
   pub text : columns_text (front z c) ≡ align_text t
 
+-- columns that have a cell for each row have the text's number and text
+module _ (t : List ℕ) (z : Sizes) (g : Given t z.files z.peptides z.rows)
+    (h : within_limits max_files z.files z.peptides z.rows ≡ true) (zs c : Columns) (e : c ≡ stored zs 0 g.input.rows)
+    (long : Long z.rows c) where
+  counted : {A : Type 0} (get : TextRow → A) → length (map get g.input.rows) ≡ z.rows
+  counted get = length-map g.input.rows get ∙ sym g.rows
+
+  -- the columns' first cells are the rows
+  columns_is : front z c ≡ columns_of g.input
+  unfolding columns_of
+  columns_is =
+      input_eq
+      (first_cells z.rows zs.file c.file _ (ap (λ (x : Columns). x.file) e) (counted (λ r. r.file)) long.file)
+      (first_cells z.rows zs.peptide c.peptide _ (ap (λ (x : Columns). x.peptide) e) (counted (λ r. r.peptide)) long.peptide)
+      (first_cells z.rows zs.label c.label _ (ap (λ (x : Columns). x.label) e) (counted (λ r. r.label)) long.label)
+      (first_cells z.rows zs.q c.q _ (ap (λ (x : Columns). x.q) e) (counted q_of) long.q)
+      (first_cells z.rows zs.rt c.rt _ (ap (λ (x : Columns). x.rt) e) (counted rt_of) long.rt)
+      g.files g.peptides
+
+  pub aligned_is : (columns_status (front z c) ≡ text_status t) × (columns_text (front z c) ≡ align_text t)
+  aligned_is = (
+    ap columns_status columns_is
+        ∙ sym (status_is t z.files z.peptides z.rows g ∙ ap (λ (b : Bool). cond b (columns_status (columns_of g.input)) past_limit) h),
+    ap columns_text columns_is
+        ∙ sym (answer_is t z.files z.peptides z.rows g ∙ ap (λ (b : Bool). cond b (columns_text (columns_of g.input)) (status_text past_limit)) h),
+  )
+
 module _ (t : List ℕ) (z : Sizes) (a : Some z ≡ option_map sizes_of (parse t))
     (h : within_limits max_files z.files z.peptides z.rows ≡ true) (zs c : Columns)
     (stores : (d : Input) → parse t ≡ Some d → c ≡ stored zs 0 d.rows) (room : Long max_rows zs) where
@@ -177,9 +204,6 @@ module _ (t : List ℕ) (z : Sizes) (a : Some z ≡ option_map sizes_of (parse t
   abbrev fits : Within z.files z.peptides z.rows
   fits = within z.files z.peptides z.rows h
 
-  counted : {A : Type 0} (get : TextRow → A) → length (map get rows) ≡ z.rows
-  counted get = length-map rows get ∙ sym g.rows
-
   long : Long z.rows c
   long =
       record {
@@ -189,18 +213,6 @@ module _ (t : List ℕ) (z : Sizes) (a : Some z ≡ option_map sizes_of (parse t
         q = as_long z.rows q_of rows zs.q c.q (ap (λ (x : Columns). x.q) e) fits.rows room.q;
         rt = as_long z.rows rt_of rows zs.rt c.rt (ap (λ (x : Columns). x.rt) e) fits.rows room.rt;
       }
-
-  -- the columns' first cells are the rows
-  columns_is : front z c ≡ columns_of g.input
-  unfolding columns_of
-  columns_is =
-      input_eq
-      (first_cells z.rows zs.file c.file _ (ap (λ (x : Columns). x.file) e) (counted (λ r. r.file)) long.file)
-      (first_cells z.rows zs.peptide c.peptide _ (ap (λ (x : Columns). x.peptide) e) (counted (λ r. r.peptide)) long.peptide)
-      (first_cells z.rows zs.label c.label _ (ap (λ (x : Columns). x.label) e) (counted (λ r. r.label)) long.label)
-      (first_cells z.rows zs.q c.q _ (ap (λ (x : Columns). x.q) e) (counted q_of) long.q)
-      (first_cells z.rows zs.rt c.rt _ (ap (λ (x : Columns). x.rt) e) (counted rt_of) long.rt)
-      g.files g.peptides
 
   pub rows_in : RowsIn t z c
   rows_in =
@@ -226,10 +238,6 @@ module _ (t : List ℕ) (z : Sizes) (a : Some z ≡ option_map sizes_of (parse t
               peptides = fits.peptides;
               rows = omega (arith, lf, fits.rows);
             };
-        status =
-            ap columns_status columns_is
-            ∙ sym (status_is t z.files z.peptides z.rows g ∙ ap (λ (b : Bool). cond b (columns_status (columns_of g.input)) past_limit) h);
-        text =
-            ap columns_text columns_is
-            ∙ sym (answer_is t z.files z.peptides z.rows g ∙ ap (λ (b : Bool). cond b (columns_text (columns_of g.input)) (status_text past_limit)) h);
+        status = (aligned_is t z g h zs c e long).0;
+        text = (aligned_is t z g h zs c e long).1;
       }

@@ -10,7 +10,7 @@ use lib.Dec.{eqb}
 use lib.ListN.{length}
 use borrow.Author.Tests.{eqb-true}
 use Rattle.status.specs.Checks.{all_below}
-use Rattle.status.specs.Status.{accepted, past_limit, bad_file, bad_peptide, first_failing}
+use Rattle.status.specs.Status.{accepted, past_limit, bad_file, bad_peptide, first_failing, number_of, refusal_by}
 use Rattle.retention_alignment.specs.Call as Call
 use Rattle.align_input.specs.Input.{Input}
 use Rattle.align_input.specs.Parse.{parse}
@@ -77,6 +77,36 @@ text_by_status t = go (parse t)
 pub refused_text : (t : List ℕ) → eqb (text_status t) accepted ≡ false
     → align_text t ≡ status_text (text_status t)
 refused_text t h = text_by_status t ∙ ap (λ (b : Bool). cond b (alignment_of (parse t)) (status_text (text_status t))) h
+
+-- ---- the number of a refused text is that of a refusal
+
+number_by_checks : (a b c : Bool)
+    → let n = first_failing ((past_limit, a) ∷ (bad_file, b) ∷ (bad_peptide, c) ∷ []) in
+    (n ≡ accepted → ⊥) → number_of (refusal_by n) ≡ n
+number_by_checks false b c h = refl
+number_by_checks true false c h = refl
+number_by_checks true true false h = refl
+number_by_checks true true true h = absurd (h refl)
+
+input_number : (d : Input) → (input_status_with max_files d ≡ accepted → ⊥)
+    → number_of (refusal_by (input_status_with max_files d)) ≡ input_status_with max_files d
+unfolding input_status_with
+input_number d =
+    let i : Call.Input = columns_of d in
+    number_by_checks (within_limits max_files d.files d.peptides (length d.rows)) (all_below i.files i.file)
+    (all_below i.peptides i.peptide)
+
+pub refused_number : (t : List ℕ) → (text_status t ≡ accepted → ⊥)
+    → number_of (refusal_by (text_status t)) ≡ text_status t
+unfolding text_status_with
+refused_number t = go (parse t)
+  where
+    go : (o : Option Input) → (status_with max_files o ≡ accepted → ⊥)
+        → number_of (refusal_by (status_with max_files o)) ≡ status_with max_files o
+    go None h = refl
+    go (Some d) h = input_number d h
+
+-- ---- how an answer begins
 
 -- a text that begins with the line of a number
 pub record Begins (n : ℕ) (text : List ℕ) : Type 0 where

@@ -31,7 +31,7 @@ use Rattle.peptide.specs.Table.{
 -- ---- a loop through the offsets
 
 -- the first offset and the others
-offsets_head : (peptides letters : ℕ) (offsets : List ℕ) → 0 < length offsets
+pub offsets_head : (peptides letters : ℕ) (offsets : List ℕ) → 0 < length offsets
     → offsets_right peptides letters offsets
     ≡ eqb (length offsets - 1) peptides && eqb (get_or offsets 0 0) 0 && climbs (get_or offsets 0 0) letters (drop 1 offsets)
 unfolding offsets_right

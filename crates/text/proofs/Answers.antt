@@ -1,5 +1,5 @@
 -- What the functions that read answer, for what the definitions give.
-use Rattle.std.proofs.Common.{◌≡◌, ℕ, suc, ◌+◌, ◌-◌, ◌≤◌, ◌<◌, Bool, List, [], ◌∷◌, Option, Some, None, length, take, drop, eqb, nat_eq, ◌==◌, true, false, refl, sym, ap, ◌∙◌, arith, add-zero}
+use Rattle.std.proofs.Common.{◌≡◌, ℕ, suc, ◌+◌, ◌-◌, ◌≤◌, ◌<◌, Bool, List, [], ◌∷◌, Option, Some, None, length, take, drop, eqb, nat_eq, ◌==◌, true, false, refl, sym, ap, ◌∙◌, arith, add-zero, eq-eqb, ne_eqb}
 use lib.Seq.{take-append_seam}
 use lib.ListN.{length-drop, length-append}
 use Rattle.std.specs.List.{position, position_from}
@@ -19,6 +19,16 @@ is_lf c = c == 10
 longer_end : (c i : ℕ) (o : Option (List ℕ)) → line_end i (longer_by c o) ≡ line_end (i + 1) o
 longer_end c i None = refl
 longer_end c i (Some l) = let e : i + suc (length l) ≡ i + 1 + length l = omega arith in ap Some e
+
+-- by the first byte: the line ends there, or where the rest does
+module _ (i c : ℕ) (s : List ℕ) where
+  pub end_here : c ≡ 10 → line_end i (line_of (c ∷ s)) ≡ Some i
+  unfolding line_of
+  end_here h = simp (eq-eqb c 10 h, add-zero i)
+
+  pub end_more : (c ≡ 10 → ⊥) → line_end i (line_of (c ∷ s)) ≡ line_end (i + 1) (line_of s)
+  unfolding line_of
+  end_more h = simp (ne_eqb c 10 h) (longer_end c i (line_of s))
 
 end_from : (i : ℕ) (s : List ℕ) → line_end i (line_of s) ≡ position_from is_lf i s
 unfolding line_of
@@ -42,11 +52,11 @@ end_position at s =
     ∙ position_more at 0 s
     ∙ ap (option_map (λ n. at + n)) (sym (position_from-zero is_lf s))
 
-end_some : (at e : ℕ) (o : Option (List ℕ)) → Some e ≡ line_end at o → (l : List ℕ) × (o ≡ Some l) × (e ≡ at + length l)
+pub end_some : (at e : ℕ) (o : Option (List ℕ)) → Some e ≡ line_end at o → (l : List ℕ) × (o ≡ Some l) × (e ≡ at + length l)
 end_some at e None h = let z : ◌≡◌ {A = ℕ} 0 1 = cc in absurd (omega arith)
 end_some at e (Some l) h = (l, refl, (cc))
 
-end_none : (at : ℕ) (o : Option (List ℕ)) → None ≡ line_end at o → o ≡ None
+pub end_none : (at : ℕ) (o : Option (List ℕ)) → None ≡ line_end at o → o ≡ None
 end_none at None h = refl
 end_none at (Some l) h = cc
 
