@@ -165,7 +165,8 @@ rows_changed {A = A} w n g cells new each makes =
 
 -- ---- rows of one width
 
-flat_layout : {A : Type 0} (w m : ℕ) → Layout {A = A} m (rows_of w m) (λ i. i * w) (λ i. w)
+-- they may be made anew in a loop
+pub flat_layout : {A : Type 0} (w m : ℕ) → Layout {A = A} m (rows_of w m) (λ i. i * w) (λ i. w)
 flat_layout w m =
     record {
       row_next = λ i. suc-mul i w;

@@ -3,7 +3,7 @@
 use mathlib.Core.Path.{◌≡◌, refl, sym, ap, ◌∙◌}
 use mathlib.Core.List.{List, [], ◌++◌}
 use Prim.Native.Nat.{ℕ, ◌+◌, ◌-◌, ◌*◌, ◌≤◌, ◌<◌, min, max}
-use native.Mathlib.Nat.{le_of_eq, suc-mul}
+use native.Mathlib.Nat.{le_of_eq}
 use native.Mathlib.Numerals.{add-one}
 use native.Mathlib.Omega.{arith}
 use lib.ListN.{length, get_or, set, take, drop}
@@ -11,9 +11,8 @@ use lib.Seq.{get_or-drop, paste, paste-suc, drop-paste}
 use lib.Ieee.{Float, nan}
 use Rattle.matrix.specs.Rows.{rows_of}
 use Rattle.matrix.specs.Lists.{tabulate}
-use Rattle.matrix.proofs.Laws.{row_end, row_rows_of, rows_of_put_row}
 use Rattle.matrix.proofs.Lists.{length_tabulate, get_d_tabulate, overwrite_suc}
-use Rattle.elimination.proofs.Rows.{Layout, MadeIn, TurnIn, turn_in}
+use Rattle.elimination.proofs.Rows.{Layout, MadeIn, TurnIn, turn_in, flat_layout}
 use Rattle.packed_rows.specs.Falling.{falling_rows, falling_start}
 use Rattle.regression.specs.Triangle.{mirrored, unfolded}
 use Rattle.packed_rows.proofs.Falling.{row_ends, cell_falling, length_falling, row_falling, falling_rows_lem}
@@ -115,13 +114,7 @@ one_more_among d j k split to from old cells h l room whole at e =
 
 -- rows of one width may be made anew in a loop
 pub width_layout : {A : Type 0} (w m : ℕ) → Layout {A = A} m (rows_of w m) (λ i. i * w) (λ i. w)
-width_layout w m =
-    record {
-      row_next = λ i. suc-mul i w;
-      row_ends = λ i h. row_end w m i h;
-      row_is = λ i xs h. row_rows_of w m i xs h;
-      row_put = λ i r xs h l e. rows_of_put_row w m i r xs h l e;
-    }
+width_layout w m = flat_layout w m
 
 -- the first j full rows are made, whatever was there, and row j begins at `start`
 abbrev pub fresh : (d : ℕ) (stored : List Float) → ℕ → List Float → List Float
